@@ -1,0 +1,5 @@
+pub mod History
+pub mod Lived
+pub mod Promise
+pub mod Steps
+pub mod Words
