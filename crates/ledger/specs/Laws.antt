@@ -21,4 +21,3 @@ ledger-short bins unfit = omega arith
 
 pub ledger-laws : ServiceLaws ledger-model
 ledger-laws = record { some = λ c b. ledger-short c (ledger-ask b) .0; short = λ c b. ledger-short c (ledger-ask b) .1 }
-
