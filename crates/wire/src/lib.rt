@@ -1,0 +1,9 @@
+pub mod messages;
+pub mod refusals;
+pub mod statuses;
+pub use messages::Reply;
+pub use messages::Request;
+pub use messages::SessionId;
+pub use refusals::Place;
+pub use refusals::Refusal;
+pub use statuses::Status;
