@@ -1,2 +1,4 @@
+pub mod Books
+pub mod Forms
 pub mod Laws
 pub mod Ledger
