@@ -1,5 +1,8 @@
 -- What the values of the code stand for in the written rules.
 use Prim.Native.Nat.{ℕ}
+use mathlib.Core.List.{List}
+use denote.Ref.{RefT}
+use lib.ListN.{length}
 use Rattle.std.specs.declared.option.Option.{Option}
 use Rattle.std.specs.declared.option.Option.the-variants.{Some, None}
 use Rattle.std.specs.declared.result.Result.{Result}
@@ -13,6 +16,7 @@ use Rattle.wire.specs.declared.refusals.Place.{Place as CodePlace}
 use Rattle.wire.specs.declared.refusals.Place.the-variants.{Buffer, Terminal, SessionMap, Channel, Codec}
 use Rattle.wire.specs.declared.refusals.Refusal.{Refusal as CodeRefusal}
 use Rattle.wire.specs.declared.refusals.Refusal.the-variants.{ShortScratch, NoTerminal, NotStanding, LongBody, NoSlot, NoOpenCall, NoPart, NoWork, HighTarget, NoPlace, NoCount, FewTrays, NothingWaits, Unreadable, NoCall}
+use Rattle.common.specs.Bytes.{Bytes}
 use Rattle.wire.specs.Wire.{SessionId, Request, Reply, Refusal, short-scratch, no-terminal, not-standing, long-body, no-slot, no-open-call, no-part, no-work, high-target, no-place, no-count, few-trays, nothing-waits, unreadable, no-call, Place, buffer, terminal, session-map, channel, codec}
 
 -- the number of each status
@@ -71,7 +75,20 @@ refusal-model NothingWaits = nothing-waits
 refusal-model (Unreadable offset) = unreadable offset
 refusal-model NoCall = no-call
 
+-- a value that stands for itself
+abbrev pub same : {X : Type 0} → X → X
+same x = x
+
+-- lent bytes
+abbrev pub lent : RefT (List ℕ) → Bytes
+lent b = b .now
+
 -- what a call answers, by what its value stands for
 abbrev pub answered : {X Y : Type 0} → (X → Y) → Result X CodeRefusal → Result Y Refusal
 answered model (Ok x) = Ok (model x)
 answered model (Err e) = Err (refusal-model e)
+
+-- how many bytes were lent
+abbrev pub size-of : Result (RefT (List ℕ)) CodeRefusal → ℕ
+size-of (Ok b) = length (b .now)
+size-of (Err e) = 0

@@ -1,4 +1,5 @@
 pub mod messages;
+pub mod reader;
 pub mod refusals;
 pub mod statuses;
 pub use messages::Reply;

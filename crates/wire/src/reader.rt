@@ -1,0 +1,173 @@
+ghost use mathlib.Core.Path.{_≡_};
+ghost use mathlib.Core.Bool.{cond};
+ghost use Prim.Native.Nat.{ℕ, _+_, _-_, _≤_};
+ghost use lib.Dec.{leb, eqb};
+ghost use lib.ListN.{length};
+ghost use Rattle.std.specs.Results.{isOk};
+ghost use Rattle.std.specs.Vec.{made};
+ghost use Rattle.common.specs.Bytes.{be32, be64};
+ghost use Rattle.wire.specs.Wire.{is-status, padded, u32-at, permitted-at, id-at, zeros-at, body-at, end-at};
+ghost use Rattle.wire.specs.Models.{answered, same, lent, size-of, id-model, status-number};
+use crate::messages::SessionId;
+use crate::refusals::Refusal;
+use crate::statuses::Status;
+
+// Stands on lent bytes and keeps its place. A method that refuses leaves it where it was.
+#[derive(Drop)]
+pub struct Reader<'a> {
+    bytes: &'a [u8],
+    at: usize,
+}
+
+fn word(bytes: &[u8], at: usize) -> u32
+    requires { ⌜ at + 4 ≤ length (now bytes) ⌝ }
+    ensures { λ r. ⌜ r ≡ be32 (now (bytes .entry)) at ⌝ }
+{
+    u32::from_be_bytes([bytes[at], bytes[at + 1], bytes[at + 2], bytes[at + 3]])
+}
+
+fn double_word(bytes: &[u8], at: usize) -> u64
+    requires { ⌜ at + 8 ≤ length (now bytes) ⌝ }
+    ensures { λ r. ⌜ r ≡ be64 (now (bytes .entry)) at ⌝ }
+{
+    u64::from(word(bytes, at)) * 4294967296 + u64::from(word(bytes, at + 4))
+}
+
+// The first of n bytes that is not 0 is reported.
+fn zeros(bytes: &[u8], at: usize, n: usize) -> Result<(), Refusal>
+    requires { ⌜ at + n ≤ length (now bytes) ⌝ }
+    ensures { λ r. ⌜ answered same r ≡ zeros-at n (now (bytes .entry)) at ⌝ }
+{
+    for i in 0..n {
+        if bytes[at + i] != 0 {
+            return Err(Refusal::Unreadable { offset: at + i });
+        }
+    }
+    Ok(())
+}
+
+impl<'a> Reader<'a> {
+    pub fn new(bytes: &'a [u8]) -> Reader<'a>
+        ensures bytes { λ r. ⌜ now (r .bytes) ≡ now (bytes .entry) ⌝ }
+        ensures at { λ r. ⌜ r .at ≡ 0 ⌝ }
+    {
+        Reader { bytes, at: 0 }
+    }
+
+    fn left(&self) -> usize
+        ensures { λ r. ⌜ r ≡ length (now (now (self .entry) .bytes)) - now (self .entry) .at ⌝ }
+    {
+        self.bytes.len().saturating_sub(self.at)
+    }
+
+    // A number.
+    pub fn u32(&mut self) -> Result<u32, Refusal>
+        ensures value { λ r. ⌜ answered same r ≡ u32-at (now (now (self .entry) .bytes)) (now (self .entry) .at) ⌝ }
+        ensures bytes { λ _. ⌜ now (self .exit) .bytes ≡ now (self .entry) .bytes ⌝ }
+        ensures at { λ r. ⌜ now (self .exit) .at ≡ cond (isOk r) (now (self .entry) .at + 4) (now (self .entry) .at) ⌝ }
+    {
+        if self.left() < 4 {
+            return Err(Refusal::Unreadable { offset: self.at });
+        }
+        let number = word(self.bytes, self.at);
+        self.at += 4;
+        Ok(number)
+    }
+
+    // A session id.
+    pub fn id(&mut self) -> Result<SessionId, Refusal>
+        ensures value { λ r. ⌜ answered id-model r ≡ id-at (now (now (self .entry) .bytes)) (now (self .entry) .at) ⌝ }
+        ensures bytes { λ _. ⌜ now (self .exit) .bytes ≡ now (self .entry) .bytes ⌝ }
+        ensures at { λ r. ⌜ now (self .exit) .at ≡ cond (isOk r) (now (self .entry) .at + 16) (now (self .entry) .at) ⌝ }
+    {
+        if self.left() < 16 {
+            return Err(Refusal::Unreadable { offset: self.at });
+        }
+        let boot = double_word(self.bytes, self.at);
+        let count = double_word(self.bytes, self.at + 8);
+        self.at += 16;
+        Ok(SessionId { boot, count })
+    }
+
+    // A number of at most `most`.
+    pub fn at_most(&mut self, most: u32) -> Result<u32, Refusal>
+        ensures value { λ r. ⌜ answered same r ≡ permitted-at (λ n. leb n most) (now (now (self .entry) .bytes)) (now (self .entry) .at) ⌝ }
+        ensures bytes { λ _. ⌜ now (self .exit) .bytes ≡ now (self .entry) .bytes ⌝ }
+        ensures at { λ r. ⌜ now (self .exit) .at ≡ cond (isOk r) (now (self .entry) .at + 4) (now (self .entry) .at) ⌝ }
+    {
+        let offset = self.at;
+        let number = self.u32()?;
+        if number > most {
+            self.at = offset;
+            return Err(Refusal::Unreadable { offset });
+        }
+        Ok(number)
+    }
+
+    // The number `value` itself.
+    pub fn exactly(&mut self, value: u32) -> Result<u32, Refusal>
+        ensures value { λ r. ⌜ answered same r ≡ permitted-at (λ n. eqb n value) (now (now (self .entry) .bytes)) (now (self .entry) .at) ⌝ }
+        ensures bytes { λ _. ⌜ now (self .exit) .bytes ≡ now (self .entry) .bytes ⌝ }
+        ensures at { λ r. ⌜ now (self .exit) .at ≡ cond (isOk r) (now (self .entry) .at + 4) (now (self .entry) .at) ⌝ }
+    {
+        let offset = self.at;
+        let number = self.u32()?;
+        if number != value {
+            self.at = offset;
+            return Err(Refusal::Unreadable { offset });
+        }
+        Ok(number)
+    }
+
+    // A reply's status.
+    pub fn status(&mut self) -> Result<Status, Refusal>
+        ensures value { λ r. ⌜ answered status-number r ≡ permitted-at is-status (now (now (self .entry) .bytes)) (now (self .entry) .at) ⌝ }
+        ensures bytes { λ _. ⌜ now (self .exit) .bytes ≡ now (self .entry) .bytes ⌝ }
+        ensures at { λ r. ⌜ now (self .exit) .at ≡ cond (isOk r) (now (self .entry) .at + 4) (now (self .entry) .at) ⌝ }
+    {
+        let offset = self.at;
+        let number = self.u32()?;
+        match Status::from_number(number) {
+            Some(status) => Ok(status),
+            None => {
+                self.at = offset;
+                Err(Refusal::Unreadable { offset })
+            }
+        }
+    }
+
+    // A length of at most `longest`, so many bytes, and their padding.
+    pub fn body(&mut self, longest: u32) -> Result<&'a [u8], Refusal>
+        ensures value { λ r. ⌜ answered lent r ≡ body-at longest (now (now (self .entry) .bytes)) (now (self .entry) .at) ⌝ }
+        ensures short { λ r. ⌜ made r (λ b. length (b .now) ≤ longest) ⌝ }
+        ensures bytes { λ _. ⌜ now (self .exit) .bytes ≡ now (self .entry) .bytes ⌝ }
+        ensures at { λ r. ⌜ now (self .exit) .at ≡ cond (isOk r) (now (self .entry) .at + (4 + padded (size-of r))) (now (self .entry) .at) ⌝ }
+    {
+        let start = self.at;
+        let n = self.at_most(longest)? as usize;
+        let at = self.at;
+        let all = (n + 3) / 4 * 4;
+        if self.left() < all {
+            self.at = start;
+            return Err(Refusal::Unreadable { offset: at });
+        }
+        if let Err(e) = zeros(self.bytes, at + n, all - n) {
+            self.at = start;
+            return Err(e);
+        }
+        self.at = at + all;
+        let bytes = self.bytes;
+        Ok(&bytes[at..at + n])
+    }
+
+    // Nothing more.
+    pub fn end(&mut self) -> Result<(), Refusal>
+        ensures value { λ r. ⌜ answered same r ≡ end-at (now (now (self .entry) .bytes)) (now (self .entry) .at) ⌝ }
+        ensures same { λ _. ⌜ now (self .exit) ≡ now (self .entry) ⌝ }
+    {
+        if self.left() > 0 {
+            return Err(Refusal::Unreadable { offset: self.at });
+        }
+        Ok(())
+    }
+}
