@@ -10,6 +10,21 @@ pub struct SessionId {
     pub count: u64,
 }
 
+// The fields that both messages have.
+#[derive(Clone, Copy)]
+pub(crate) struct Head {
+    pub(crate) id: SessionId,
+    pub(crate) number: u32,
+    pub(crate) slot: u32,
+}
+
+// What a reply tells of the session's slots: the highest open one, and the one the server aims at.
+#[derive(Clone, Copy)]
+pub(crate) struct Reach {
+    pub(crate) highest: u32,
+    pub(crate) target: u32,
+}
+
 // What a terminal asks. `number` is the sequence number of its slot, `keep` asks that the reply be cached.
 #[derive(Clone, Copy)]
 pub struct Request<'a> {
@@ -21,7 +36,7 @@ pub struct Request<'a> {
     pub body: &'a [u8],
 }
 
-// What the server answers. `highest` and `target` are slots, the highest open one and the one it aims at.
+// What the server answers. `highest` is its highest open slot, `target` the one it aims at.
 #[derive(Clone, Copy)]
 pub struct Reply<'a> {
     pub status: Status,

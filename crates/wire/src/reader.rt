@@ -7,14 +7,19 @@ ghost use Rattle.std.specs.Results.{isOk};
 ghost use Rattle.std.specs.Vec.{made};
 ghost use Rattle.common.specs.Bytes.{be32, be64};
 ghost use Rattle.wire.specs.Wire.{is-status, padded, u32-at, permitted-at, id-at, zeros-at, body-at, end-at};
-ghost use Rattle.wire.specs.Models.{answered, same, lent, size-of, id-model, status-number};
+ghost use Rattle.wire.specs.Groups.{head-model, head-at, reach-model, reach-at, last-at, request-at, reply-at};
+ghost use Rattle.wire.specs.Models.{answered, same, lent, size-of, id-model, request-model, reply-model, status-number};
+use crate::messages::Head;
+use crate::messages::Reach;
+use crate::messages::Reply;
+use crate::messages::Request;
 use crate::messages::SessionId;
 use crate::refusals::Refusal;
 use crate::statuses::Status;
 
 // Stands on lent bytes and keeps its place. A method that refuses leaves it where it was.
 #[derive(Drop)]
-pub struct Reader<'a> {
+pub(crate) struct Reader<'a> {
     bytes: &'a [u8],
     at: usize,
 }
@@ -47,7 +52,7 @@ fn zeros(bytes: &[u8], at: usize, n: usize) -> Result<(), Refusal>
 }
 
 impl<'a> Reader<'a> {
-    pub fn new(bytes: &'a [u8]) -> Reader<'a>
+    pub(crate) fn new(bytes: &'a [u8]) -> Reader<'a>
         ensures bytes { λ r. ⌜ now (r .bytes) ≡ now (bytes .entry) ⌝ }
         ensures at { λ r. ⌜ r .at ≡ 0 ⌝ }
     {
@@ -61,7 +66,7 @@ impl<'a> Reader<'a> {
     }
 
     // A number.
-    pub fn u32(&mut self) -> Result<u32, Refusal>
+    pub(crate) fn u32(&mut self) -> Result<u32, Refusal>
         ensures value { λ r. ⌜ answered same r ≡ u32-at (now (now (self .entry) .bytes)) (now (self .entry) .at) ⌝ }
         ensures bytes { λ _. ⌜ now (self .exit) .bytes ≡ now (self .entry) .bytes ⌝ }
         ensures at { λ r. ⌜ now (self .exit) .at ≡ cond (isOk r) (now (self .entry) .at + 4) (now (self .entry) .at) ⌝ }
@@ -75,7 +80,7 @@ impl<'a> Reader<'a> {
     }
 
     // A session id.
-    pub fn id(&mut self) -> Result<SessionId, Refusal>
+    pub(crate) fn id(&mut self) -> Result<SessionId, Refusal>
         ensures value { λ r. ⌜ answered id-model r ≡ id-at (now (now (self .entry) .bytes)) (now (self .entry) .at) ⌝ }
         ensures bytes { λ _. ⌜ now (self .exit) .bytes ≡ now (self .entry) .bytes ⌝ }
         ensures at { λ r. ⌜ now (self .exit) .at ≡ cond (isOk r) (now (self .entry) .at + 16) (now (self .entry) .at) ⌝ }
@@ -90,7 +95,7 @@ impl<'a> Reader<'a> {
     }
 
     // A number of at most `most`.
-    pub fn at_most(&mut self, most: u32) -> Result<u32, Refusal>
+    pub(crate) fn at_most(&mut self, most: u32) -> Result<u32, Refusal>
         ensures value { λ r. ⌜ answered same r ≡ permitted-at (λ n. leb n most) (now (now (self .entry) .bytes)) (now (self .entry) .at) ⌝ }
         ensures bytes { λ _. ⌜ now (self .exit) .bytes ≡ now (self .entry) .bytes ⌝ }
         ensures at { λ r. ⌜ now (self .exit) .at ≡ cond (isOk r) (now (self .entry) .at + 4) (now (self .entry) .at) ⌝ }
@@ -105,7 +110,7 @@ impl<'a> Reader<'a> {
     }
 
     // The number `value` itself.
-    pub fn exactly(&mut self, value: u32) -> Result<u32, Refusal>
+    pub(crate) fn exactly(&mut self, value: u32) -> Result<u32, Refusal>
         ensures value { λ r. ⌜ answered same r ≡ permitted-at (λ n. eqb n value) (now (now (self .entry) .bytes)) (now (self .entry) .at) ⌝ }
         ensures bytes { λ _. ⌜ now (self .exit) .bytes ≡ now (self .entry) .bytes ⌝ }
         ensures at { λ r. ⌜ now (self .exit) .at ≡ cond (isOk r) (now (self .entry) .at + 4) (now (self .entry) .at) ⌝ }
@@ -120,7 +125,7 @@ impl<'a> Reader<'a> {
     }
 
     // A reply's status.
-    pub fn status(&mut self) -> Result<Status, Refusal>
+    pub(crate) fn status(&mut self) -> Result<Status, Refusal>
         ensures value { λ r. ⌜ answered status-number r ≡ permitted-at is-status (now (now (self .entry) .bytes)) (now (self .entry) .at) ⌝ }
         ensures bytes { λ _. ⌜ now (self .exit) .bytes ≡ now (self .entry) .bytes ⌝ }
         ensures at { λ r. ⌜ now (self .exit) .at ≡ cond (isOk r) (now (self .entry) .at + 4) (now (self .entry) .at) ⌝ }
@@ -137,11 +142,11 @@ impl<'a> Reader<'a> {
     }
 
     // A length of at most `longest`, so many bytes, and their padding.
-    pub fn body(&mut self, longest: u32) -> Result<&'a [u8], Refusal>
+    pub(crate) fn body(&mut self, longest: u32) -> Result<&'a [u8], Refusal>
         ensures value { λ r. ⌜ answered lent r ≡ body-at longest (now (now (self .entry) .bytes)) (now (self .entry) .at) ⌝ }
         ensures short { λ r. ⌜ made r (λ b. length (b .now) ≤ longest) ⌝ }
         ensures bytes { λ _. ⌜ now (self .exit) .bytes ≡ now (self .entry) .bytes ⌝ }
-        ensures at { λ r. ⌜ now (self .exit) .at ≡ cond (isOk r) (now (self .entry) .at + (4 + padded (size-of r))) (now (self .entry) .at) ⌝ }
+        ensures at { λ r. ⌜ now (self .exit) .at ≡ cond (isOk r) (now (self .entry) .at + 4 + padded (size-of r)) (now (self .entry) .at) ⌝ }
     {
         let start = self.at;
         let n = self.at_most(longest)? as usize;
@@ -161,7 +166,7 @@ impl<'a> Reader<'a> {
     }
 
     // Nothing more.
-    pub fn end(&mut self) -> Result<(), Refusal>
+    pub(crate) fn end(&mut self) -> Result<(), Refusal>
         ensures value { λ r. ⌜ answered same r ≡ end-at (now (now (self .entry) .bytes)) (now (self .entry) .at) ⌝ }
         ensures same { λ _. ⌜ now (self .exit) ≡ now (self .entry) ⌝ }
     {
@@ -169,5 +174,78 @@ impl<'a> Reader<'a> {
             return Err(Refusal::Unreadable { offset: self.at });
         }
         Ok(())
+    }
+
+    // The fields that both messages have.
+    fn head(&mut self) -> Result<Head, Refusal>
+        ensures value { λ r. ⌜ answered head-model r ≡ head-at (now (now (self .entry) .bytes)) (now (self .entry) .at) ⌝ }
+        ensures bytes { λ _. ⌜ now (self .exit) .bytes ≡ now (self .entry) .bytes ⌝ }
+        ensures at { λ r. ⌜ made r (λ _. now (self .exit) .at ≡ now (self .entry) .at + 24) ⌝ }
+    {
+        let id = self.id()?;
+        let number = self.u32()?;
+        let slot = self.u32()?;
+        Ok(Head { id, number, slot })
+    }
+
+    // Highest and target, each at most `top`, and the flags, which are 0.
+    fn reach(&mut self, top: u32) -> Result<Reach, Refusal>
+        ensures value { λ r. ⌜ answered reach-model r ≡ reach-at top (now (now (self .entry) .bytes)) (now (self .entry) .at) ⌝ }
+        ensures bytes { λ _. ⌜ now (self .exit) .bytes ≡ now (self .entry) .bytes ⌝ }
+        ensures at { λ r. ⌜ made r (λ _. now (self .exit) .at ≡ now (self .entry) .at + 12) ⌝ }
+    {
+        let highest = self.at_most(top)?;
+        let target = self.at_most(top)?;
+        self.exactly(0)?;
+        Ok(Reach { highest, target })
+    }
+
+    // A body with nothing behind it.
+    fn last(&mut self, longest: u32) -> Result<&'a [u8], Refusal>
+        ensures value { λ r. ⌜ answered lent r ≡ last-at longest (now (now (self .entry) .bytes)) (now (self .entry) .at) ⌝ }
+        ensures short { λ r. ⌜ made r (λ b. length (b .now) ≤ longest) ⌝ }
+    {
+        let body = self.body(longest)?;
+        self.end()?;
+        Ok(body)
+    }
+
+    pub(crate) fn request(&mut self) -> Result<Request<'a>, Refusal>
+        ensures value { λ r. ⌜ answered request-model r ≡ request-at (now (now (self .entry) .bytes)) (now (self .entry) .at) ⌝ }
+        ensures short { λ r. ⌜ made r (λ q. length (q .body .now) ≤ 256) ⌝ }
+    {
+        self.exactly(53)?;
+        let head = self.head()?;
+        let highest = self.u32()?;
+        let keep = self.at_most(1)?;
+        let body = self.last(256)?;
+        Ok(Request {
+            id: head.id,
+            number: head.number,
+            slot: head.slot,
+            highest,
+            keep: keep == 1,
+            body,
+        })
+    }
+
+    pub(crate) fn reply(&mut self) -> Result<Reply<'a>, Refusal>
+        ensures value { λ r. ⌜ answered reply-model r ≡ reply-at (now (now (self .entry) .bytes)) (now (self .entry) .at) ⌝ }
+        ensures short { λ r. ⌜ made r (λ p. length (p .body .now) ≤ 256) ⌝ }
+    {
+        self.exactly(53)?;
+        let status = self.status()?;
+        let head = self.head()?;
+        let reach = self.reach(status.top())?;
+        let body = self.last(status.longest())?;
+        Ok(Reply {
+            status,
+            id: head.id,
+            number: head.number,
+            slot: head.slot,
+            highest: reach.highest,
+            target: reach.target,
+            body,
+        })
     }
 }

@@ -1,7 +1,6 @@
 use mathlib.Core.Path.{_≡_, sym, ap, _∙_}
 use Prim.Native.Nat.{_+_, _-_}
 use native.Mathlib.Omega.{arith}
-
 use Rattle.wire.proofs.Zeros.{zeros-more, zeros-stop, zeros-none}
 use Rattle.wire.proofs.reader.zeros.Needs as need
 
