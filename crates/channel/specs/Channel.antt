@@ -1,11 +1,11 @@
 -- What a channel is: a state, the messages that wait in it, and its own steps for put and take.
 use mathlib.Core.Path.{_≡_}
-use mathlib.Core.List.{List, [], _∷_}
-use mathlib.Core.Bool.{cond}
+use mathlib.Core.List.{List, [], _∷_, _++_}
+use mathlib.Core.Bool.{Bool, cond}
 use mathlib.Core.Logic.{_⊎_}
 use Prim.Native.Nat.{ℕ, _≤_}
-use lib.ListN.{length}
-use lib.Dec.{leb}
+use lib.ListN.{length, take, drop}
+use lib.Dec.{leb, eqb}
 use Rattle.std.specs.declared.option.Option.{Option}
 use Rattle.std.specs.declared.option.Option.the-variants.{Some, None}
 use Rattle.common.specs.Bytes.{Bytes}
@@ -38,3 +38,17 @@ take-step C s room = cond (leb 304 room) (C .rests s) s
 -- and what it gives: then none
 abbrev pub take-gives : (C : ChannelModel) → C .State → ℕ → Option Bytes
 take-gives C s room = cond (leb 304 room) (C .gives s) None
+
+-- the message that take handed over: the front of the buffer, by the length that it answered
+abbrev pub taken : Option ℕ → Bytes → Option Bytes
+taken None buffer = None
+taken (Some n) buffer = Some (take n buffer)
+
+-- the buffer after a take: the message given lies at its front, and the bytes behind it stay
+abbrev pub laid : Option Bytes → Bytes → Bytes
+laid None buffer = buffer
+laid (Some m) buffer = m ++ drop (length m) buffer
+
+-- whether no message waits
+abbrev pub none-waits : (C : ChannelModel) → C .State → Bool
+none-waits C s = eqb (length (C .waits s)) 0

@@ -65,6 +65,10 @@ pub record LossState (S : Type 0) : Type 0 where
   pub since : ℕ
   pub inner : S
 
+-- a loss as it is made
+abbrev pub loss-start : {S : Type 0} → ℕ → S → LossState S
+loss-start k s = record { every = k; since = 0; inner = s }
+
 -- each put counts, and every k-th goes no further
 abbrev pub loss-puts : (C : ChannelModel) → LossState (C .State) → Bytes → LossState (C .State)
 loss-puts C s m = record {

@@ -1,3 +1,4 @@
 pub mod Channel
 pub mod Channels
+pub mod Held
 pub mod Laws
