@@ -1,3 +1,4 @@
+pub mod Bounds
+pub mod Groups
 pub mod Models
 pub mod Wire
-pub mod Groups
