@@ -1,11 +1,13 @@
 ghost use mathlib.Core.Path.{_≡_};
-ghost use mathlib.Core.List.{_++_};
-ghost use Prim.Native.Nat.{ℕ};
+ghost use mathlib.Core.List.{List, _++_};
+ghost use Prim.Native.Nat.{ℕ, _≤_};
 ghost use lib.ListN.{length, drop};
 ghost use Rattle.ledger.specs.Ledger.{move, ledger-after, ledger-answer, ledger-model, move-status};
 ghost use Rattle.ledger.specs.Laws.{ledger-laws};
 ghost use Rattle.ledger.specs.Forms.{ask-model, answer-bytes};
 ghost use Rattle.ledger.specs.Books.{book, held, done-bytes, judged-status};
+ghost use Rattle.ledger.specs.Runs.{grams, after-run};
+ghost use Rattle.common.specs.Bytes.{Bytes};
 use crate::body::Ask;
 use crate::reply::Answer;
 use crate::reply::Refused;
@@ -15,6 +17,17 @@ use service::Service;
 #[derive(Drop)]
 pub struct Ledger {
     bins: [u32; 32],
+}
+
+fn grams_in(bins: &[u32]) -> u64
+    requires { ⌜ length (now bins) ≤ 32 ⌝ }
+    ensures { λ r. ⌜ r ≡ grams (now (bins .entry)) ⌝ }
+{
+    let mut total = 0u64;
+    for grams in bins {
+        total += u64::from(*grams);
+    }
+    total
 }
 
 impl Ledger {
@@ -30,6 +43,14 @@ impl Ledger {
         ensures { λ r. ⌜ r ≡ held (book (now (self .entry))) bin ⌝ }
     {
         self.bins.get(bin as usize).copied()
+    }
+
+    /// The grams in all bins together; no run of bodies since the book was `first` has changed them.
+    pub fn total(&self) -> u64
+        ensures value { λ r. ⌜ r ≡ grams (book (now (self .entry))) ⌝ }
+        ensures kept { λ r. ⌜ ((first : List ℕ) (bodies : List Bytes) → length first ≡ 32 → book (now (self .entry)) ≡ after-run first bodies → r ≡ grams first) ⌝ }
+    {
+        grams_in(&self.bins)
     }
 
     // Whether a move can be done; the tests stand in the order of their statuses.

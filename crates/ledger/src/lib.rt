@@ -1,6 +1,7 @@
 //! The ledger: 32 bins, each a count of grams, and the service that moves grams between them and tells counts.
 mod body;
 mod book;
+pub mod laws;
 mod reply;
 
 pub use body::Ask;
