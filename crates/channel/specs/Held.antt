@@ -5,7 +5,8 @@ use lib.ListN.{take, drop}
 use denote.Ref.{now}
 use Rattle.common.specs.Bytes.{Bytes}
 use Rattle.channel.specs.Channel.{ChannelModel}
-use Rattle.channel.specs.Channels.{ShelfState, LossState}
+use Rattle.channel.specs.Channels.{ShelfState, LossState, pipe-model, loss-model, double-model}
+use Rattle.channel.specs.Laws.{pipe-laws, loss-laws, double-laws}
 use Rattle.channel.specs.declared.packet.Packet.{Packet}
 use Rattle.channel.specs.declared.rack.Rack.{Rack}
 use Rattle.channel.specs.declared.pipe.Pipe.{Pipe}
@@ -33,3 +34,17 @@ loss-state c l = record { every = l .every; since = l .since; inner = c .state (
 
 abbrev pub double-state : {C : Type 0} (c : channel.Ghosts C) → Double C → c .model .State
 double-state c d = c .state (d .inner)
+
+-- Each as a channel, for what is said of channels put together.
+abbrev pub pipe-channel : channel.Ghosts Pipe
+pipe-channel = record { model = pipe-model; state = pipe-state; lawful = pipe-laws }
+
+abbrev pub loss-channel : {C : Type 0} → channel.Ghosts C → channel.Ghosts (Loss C)
+loss-channel c = record { model = loss-model (c .model); state = loss-state c; lawful = loss-laws (c .model) (c .lawful) }
+
+abbrev pub double-channel : {C : Type 0} → channel.Ghosts C → channel.Ghosts (Double C)
+double-channel c = record { model = double-model (c .model); state = double-state c; lawful = double-laws (c .model) (c .lawful) }
+
+-- the shop pile
+abbrev pub pile-channel : channel.Ghosts (Double (Loss Pipe))
+pile-channel = double-channel (loss-channel pipe-channel)

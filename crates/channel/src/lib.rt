@@ -6,8 +6,10 @@ ghost use Rattle.std.specs.Options.{Cases};
 ghost use Rattle.channel.specs.Channel.{ChannelModel, ChannelLaws, take-step, take-gives, taken, laid, none-waits};
 
 pub mod double;
+pub mod laws;
 pub mod loss;
 mod packet;
+pub mod pile;
 pub mod pipe;
 mod rack;
 pub mod shelf;
