@@ -1,2 +1,5 @@
+pub mod Asks
+pub mod Forms
 pub mod Laws
+pub mod Replies
 pub mod Tree

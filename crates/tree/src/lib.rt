@@ -1,0 +1,12 @@
+//! The name tree: 64 nodes, folders and cards, of which node 0 is the root folder; a service that makes, removes, moves and looks up.
+mod body;
+mod nodes;
+mod reply;
+
+pub use body::Ask;
+pub use nodes::Kind;
+pub use nodes::Name;
+pub use nodes::NodeId;
+pub use nodes::Tree;
+pub use reply::Answer;
+pub use reply::Refused;
