@@ -26,7 +26,7 @@ impl Ask {
                     amount,
                 }
             }
-            [2, bin] => Ask::Count { bin: *bin },
+            [2, which] => Ask::Count { bin: *which },
             _ => Ask::Unfit,
         }
     }
