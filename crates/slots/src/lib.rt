@@ -9,6 +9,11 @@ ghost use Rattle.std.specs.shelf.Maps.{nth};
 ghost use Rattle.common.specs.Search.{lowest-at};
 ghost use Rattle.slots.specs.Slots.{highest-at, front-changed, next-number, has-next};
 
+mod bodies;
+pub mod body;
+
+pub use body::Body;
+
 /// How many slots a session has, at both ends.
 pub const SLOTS: usize = 16;
 
