@@ -2,3 +2,4 @@ pub mod Bounds
 pub mod Groups
 pub mod Models
 pub mod Wire
+pub mod Written

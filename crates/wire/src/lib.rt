@@ -4,6 +4,8 @@ pub mod read;
 mod reader;
 pub mod refusals;
 pub mod statuses;
+pub mod write;
+mod writer;
 
 pub use laws::body_bounds;
 pub use laws::reads_written;
@@ -15,3 +17,5 @@ pub use read::read_request;
 pub use refusals::Place;
 pub use refusals::Refusal;
 pub use statuses::Status;
+pub use write::write_reply;
+pub use write::write_request;
