@@ -5,6 +5,7 @@ ghost use Prim.Native.Nat.{ℕ};
 ghost use lib.ListN.{set};
 ghost use denote.Ref.{name};
 ghost use Rattle.std.specs.declared.option.Option.the-variants.{Some, None};
+ghost use Rattle.std.specs.shelf.Lists.{countBy};
 ghost use Rattle.std.specs.shelf.Maps.{nth};
 ghost use Rattle.common.specs.Search.{lowest-at};
 ghost use Rattle.slots.specs.Slots.{highest-at, front-changed, next-number, has-next};
@@ -40,6 +41,14 @@ pub trait Change<R> {
         ensures { λ _. ⌜ now (kept .exit) ≡ changed (now (self .entry)) (now (kept .entry)) ⌝ };
 }
 
+/// A question asked of one thing in a list.
+pub trait Test<X> {
+    ghost passes: { Self → X → Bool };
+
+    fn test(&self, item: &X) -> bool
+        ensures { λ r. ⌜ r ≡ passes (now (self .entry)) (now (item .entry)) ⌝ };
+}
+
 /// The number of the call behind the one with that number, at both ends; none behind the last.
 /// A slot never used has number 0, so its first call has number 1.
 pub fn next_number(number: u32) -> Option<u32>
@@ -61,16 +70,47 @@ pub fn highest_active<R: Record>(records: &[R]) -> usize
     best
 }
 
-/// The lowest slot that is ready.
-pub fn lowest_ready<R: Record>(records: &[R]) -> Option<usize>
-    ensures { λ r. ⌜ r ≡ lowest-at (R·Record .ready) (now (records .entry)) 0 ⌝ }
+/// The lowest index at which a test holds.
+pub fn lowest<X, T: Test<X>>(items: &[X], test: &T) -> Option<usize>
+    ensures { λ r. ⌜ r ≡ lowest-at (T·Test .passes (now (test .entry))) (now (items .entry)) 0 ⌝ }
 {
-    for i in 0..records.len() {
-        if records[i].is_ready() {
+    for i in 0..items.len() {
+        if test.test(&items[i]) {
             return Some(i);
         }
     }
     None
+}
+
+/// How many pass a test.
+pub fn count<X, T: Test<X>>(items: &[X], test: &T) -> usize
+    ensures { λ r. ⌜ r ≡ countBy (T·Test .passes (now (test .entry))) (now (items .entry)) ⌝ }
+{
+    let mut n = 0;
+    for i in 0..items.len() {
+        if test.test(&items[i]) {
+            n += 1;
+        }
+    }
+    n
+}
+
+#[derive(Drop)]
+struct Ready;
+
+impl<R: Record> Test<R> for Ready as ReadyTest {
+    ghost passes = { λ _ r. R·Record .ready r };
+
+    fn test(&self, item: &R) -> bool {
+        item.is_ready()
+    }
+}
+
+/// The lowest slot that is ready.
+pub fn lowest_ready<R: Record>(records: &[R]) -> Option<usize>
+    ensures { λ r. ⌜ r ≡ lowest-at (R·Record .ready) (now (records .entry)) 0 ⌝ }
+{
+    lowest(records, &Ready)
 }
 
 /// Makes a change at the first `count` records.
