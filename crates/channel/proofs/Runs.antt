@@ -18,7 +18,7 @@ use Rattle.common.specs.Search.{In}
 use Rattle.common.specs.Members.{in-append}
 use Rattle.channel.specs.Channel.{ChannelModel, ChannelLaws, take-step, take-gives}
 use Rattle.channel.specs.Channels.{racked, oldest, pipe-model, LossState, loss-start, loss-puts, loss-model, double-model}
-use Rattle.channel.specs.Runs.{Deed, putting, taking, Run, all-put, ahead, after, given, all-out, Room, Nothing-new, Keeps-order, is-lost, without, Loses-every, AtMostTwice, done, never, once, twice, each-twice, Gives-at-most-twice, Gives-twice}
+use Rattle.channel.specs.Runs.{Deed, putting, taking, Run, all-put, ahead, after, given, all-out, At-puts, Room, Nothing-new, Keeps-order, is-lost, without, Loses-every, AtMostTwice, done, never, once, twice, each-twice, Gives-at-most-twice, Gives-twice}
 
 ahead-append : (o : Option Bytes) (xs ys : List Bytes) → ahead o xs ++ ys ≡ ahead o (xs ++ ys)
 ahead-append None xs ys = refl
@@ -47,26 +47,95 @@ module _ (C : ChannelModel) (laws : ChannelLaws C) where
   nothing-new s (putting b ∷ r) m h = ⊎-elim (λ w. ⊎-elim (λ p. inr (inl (p .0), subst (λ x. length x ≤ 304) (sym (p .0)) (p .1))) inl (laws .put-keeps s b m w)) (λ p. inr (inr (p .0), p .1)) (nothing-new (C .puts s b) r m h)
   nothing-new s (taking n ∷ r) m h = ⊎-elim inl (λ k. ⊎-elim (λ w. inl (step-waited s n m w)) inr (nothing-new (take-step C s n) r m k)) (take-waited s n m (all-out C (take-step C s n) r) (subst (λ l. In m l) (ahead-append (take-gives C s n) (given C (take-step C s n) r) (C .waits (after C (take-step C s n) r))) h))
 
--- what a take from a pipe gives, ahead of what is left
-pipe-take : (s : List Bytes) (n : ℕ) (rest : List Bytes) → ahead (take-gives pipe-model s n) (take-step pipe-model s n ++ rest) ≡ s ++ rest
-pipe-take s n rest = go (leb 304 n) s
-  where
-    go : (t : Bool) (s : List Bytes) → ahead (cond t (oldest s) None) (cond t (drop 1 s) s ++ rest) ≡ s ++ rest
-    go false s = refl
-    go true [] = refl
-    go true (m ∷ ms) = refl
+-- Channels that keep a row of messages and take from its front, by what their put leaves.
+abbrev row : (List Bytes → Bytes → List Bytes) → ChannelModel
+row puts = record { State = List Bytes; waits = λ s. s; puts = puts; gives = oldest; rests = drop 1 }
+
+module _ (puts : List Bytes → Bytes → List Bytes) where
+  -- what a take gives, ahead of what is left
+  row-take : (s : List Bytes) (n : ℕ) (rest : List Bytes) → ahead (take-gives (row puts) s n) (take-step (row puts) s n ++ rest) ≡ s ++ rest
+  row-take s n rest = go (leb 304 n) s
+    where
+      go : (t : Bool) (s : List Bytes) → ahead (cond t (oldest s) None) (cond t (drop 1 s) s ++ rest) ≡ s ++ rest
+      go false s = refl
+      go true [] = refl
+      go true (m ∷ ms) = refl
+
+  -- if each put adds copies such that the messages put stay related to what was added, so they are over a run
+  module _ (Holds : List Bytes → Bytes → Type 0) (R : List Bytes → List Bytes → Type 0) (none : R [] []) (more : (s : List Bytes) (m : Bytes) → Holds s m → (copies : List Bytes) × ((puts s m ≡ s ++ copies) × ((ms out : List Bytes) → R ms out → R (m ∷ ms) (copies ++ out)))) where
+    row-run : (s : List Bytes) (r : Run) → At-puts (row puts) Holds s r → (out : List Bytes) × ((all-out (row puts) s r ≡ s ++ out) × R (all-put r) out)
+    row-run s [] h = ([], (sym (append-nil s), none))
+    row-run s (putting m ∷ r) h =
+        let q = more s m (h .0) in
+        let p = row-run (puts s m) r (h .1) in
+        (q .0 ++ p .0, (p .1 .0 ∙ ap (λ x. x ++ p .0) (q .1 .0) ∙ append-assoc s (q .0) (p .0), q .1 .1 (all-put r) (p .0) (p .1 .1)))
+    row-run s (taking n ∷ r) h =
+        let t = take-step (row puts) s n in
+        let o = take-gives (row puts) s n in
+        let p = row-run t r h in
+        (p .0, (ahead-append o (given (row puts) t r) (after (row puts) t r) ∙ ap (ahead o) (p .1 .0) ∙ row-take s n (p .0), p .1 .1))
 
 racked-room : (s : List Bytes) (m : Bytes) → length s < 8 → length m ≤ 304 → racked s m ≡ s ++ m ∷ []
 racked-room s m room short = rw (lt-ltb (length s) 8 room, le-leb (length m) 304 short) refl
 
 pub keeps-order : Keeps-order
-keeps-order s [] room = sym (append-nil s)
-keeps-order s (putting m ∷ r) room =
-    keeps-order (racked s m) r (room .1) ∙ ap (λ x. x ++ all-put r) (racked-room s m (omega (arith, room .0 .0)) (room .0 .1)) ∙ append-assoc s (m ∷ []) (all-put r)
-keeps-order s (taking n ∷ r) room =
-    let t = take-step pipe-model s n in
-    let o = take-gives pipe-model s n in
-    ahead-append o (given pipe-model t r) (after pipe-model t r) ∙ ap (ahead o) (keeps-order t r room) ∙ pipe-take s n (all-put r)
+keeps-order s r room =
+    let p = row-run racked (Room pipe-model 1) (λ ms out. out ≡ ms) refl one s r room in
+    p .1 .0 ∙ ap (λ out. s ++ out) (p .1 .1)
+  where
+    one : (s : List Bytes) (m : Bytes) → Room pipe-model 1 s m → (copies : List Bytes) × ((racked s m ≡ s ++ copies) × ((ms out : List Bytes) → out ≡ ms → (copies ++ out) ≡ m ∷ ms))
+    one s m h = (m ∷ [], (racked-room s m (omega (arith, h .0)) (h .1), λ ms out e. ap (λ l. m ∷ l) e))
+
+abbrev racked-twice : List Bytes → Bytes → List Bytes
+racked-twice s m = racked (racked s m) m
+
+pub gives-twice : Gives-twice
+gives-twice r room =
+    let p = row-run racked-twice (Room (double-model pipe-model) 2) (λ ms out. out ≡ each-twice ms) refl two [] r room in
+    p .1 .0 ∙ p .1 .1
+  where
+    two : (s : List Bytes) (m : Bytes) → Room (double-model pipe-model) 2 s m → (copies : List Bytes) × ((racked-twice s m ≡ s ++ copies) × ((ms out : List Bytes) → out ≡ each-twice ms → (copies ++ out) ≡ m ∷ m ∷ each-twice ms))
+    two s m h =
+        let len : length (s ++ m ∷ []) < 8 = rw length-append (omega (arith, h .0)) in
+        (m ∷ m ∷ [], (ap (λ t. racked t m) (racked-room s m (omega (arith, h .0)) (h .1)) ∙ racked-room (s ++ m ∷ []) m len (h .1) ∙ append-assoc s (m ∷ []) (m ∷ []), λ ms out e. ap (λ l. m ∷ m ∷ l) e))
+
+racked-or : (s : List Bytes) (m : Bytes) → (racked s m ≡ s) ⊎ (racked s m ≡ s ++ m ∷ [])
+racked-or s m = go (ltb (length s) 8 && leb (length m) 304)
+  where
+    go : (t : Bool) → (cond t (s ++ m ∷ []) s ≡ s) ⊎ (cond t (s ++ m ∷ []) s ≡ s ++ m ∷ [])
+    go true = inr refl
+    go false = inl refl
+
+abbrev Copies : List Bytes → Bytes → Type 0
+Copies s m = (copies : List Bytes) × ((racked-twice s m ≡ s ++ copies) × ((ms out : List Bytes) → AtMostTwice ms out → AtMostTwice (m ∷ ms) (copies ++ out)))
+
+copies : (s : List Bytes) (m : Bytes) → Copies s m
+copies s m = ⊎-elim first-lost first-kept (racked-or s m)
+  where
+    no-copy : racked-twice s m ≡ s → Copies s m
+    no-copy e = ([], (e ∙ sym (append-nil s), λ ms out t. never t))
+
+    one-copy : racked-twice s m ≡ s ++ m ∷ [] → Copies s m
+    one-copy e = (m ∷ [], (e, λ ms out t. once t))
+
+    two-copies : racked-twice s m ≡ s ++ m ∷ m ∷ [] → Copies s m
+    two-copies e = (m ∷ m ∷ [], (e, λ ms out t. twice t))
+
+    first-lost : racked s m ≡ s → Copies s m
+    first-lost e = ⊎-elim (λ k. no-copy (ap (λ t. racked t m) e ∙ k)) (λ k. one-copy (ap (λ t. racked t m) e ∙ k)) (racked-or s m)
+
+    first-kept : racked s m ≡ s ++ m ∷ [] → Copies s m
+    first-kept e = ⊎-elim (λ k. one-copy (k ∙ e)) (λ k. two-copies (k ∙ ap (λ t. t ++ m ∷ []) e ∙ append-assoc s (m ∷ []) (m ∷ []))) (racked-or (racked s m) m)
+
+pub gives-at-most-twice : Gives-at-most-twice
+gives-at-most-twice r =
+    let p = row-run racked-twice (λ s m. Unit {0}) AtMostTwice done (λ s m h. copies s m) [] r (always [] r) in
+    subst (λ out. AtMostTwice (all-put r) out) (sym (p .1 .0)) (p .1 .1)
+  where
+    always : (s : List Bytes) (r : Run) → At-puts (double-model pipe-model) (λ s m. Unit {0}) s r
+    always s [] = tt
+    always s (putting m ∷ r) = (tt, always (racked-twice s m) r)
+    always s (taking n ∷ r) = always (take-step (double-model pipe-model) s n) r
 
 -- how the count of puts since the last loss goes with the number of the next put
 abbrev Counted : ℕ → ℕ → ℕ → Type 0
@@ -132,61 +201,3 @@ module _ (C : ChannelModel) where
 
   pub loses-every : Loses-every C
   loses-every k s r = loss-run k 0 1 s r (counted-first k)
-
--- what two puts of a message leave in a rack
-abbrev Copied : List Bytes → Bytes → List Bytes → Type 0
-Copied s m t = (t ≡ s) ⊎ ((t ≡ s ++ m ∷ []) ⊎ (t ≡ s ++ m ∷ m ∷ []))
-
-racked-or : (s : List Bytes) (m : Bytes) → (racked s m ≡ s) ⊎ (racked s m ≡ s ++ m ∷ [])
-racked-or s m = go (ltb (length s) 8 && leb (length m) 304)
-  where
-    go : (t : Bool) → (cond t (s ++ m ∷ []) s ≡ s) ⊎ (cond t (s ++ m ∷ []) s ≡ s ++ m ∷ [])
-    go true = inr refl
-    go false = inl refl
-
-twice-racked : (s : List Bytes) (m : Bytes) → Copied s m (racked (racked s m) m)
-twice-racked s m = ⊎-elim none some (racked-or s m)
-  where
-    none : racked s m ≡ s → Copied s m (racked (racked s m) m)
-    none e = subst (λ t. Copied s m (racked t m)) (sym e) (⊎-elim inl (λ k. inr (inl k)) (racked-or s m))
-
-    some : racked s m ≡ s ++ m ∷ [] → Copied s m (racked (racked s m) m)
-    some e = ⊎-elim (λ k. inr (inl (k ∙ e))) (λ k. inr (inr (k ∙ ap (λ t. t ++ m ∷ []) e ∙ append-assoc s (m ∷ []) (m ∷ [])))) (racked-or (racked s m) m)
-
-abbrev double : ChannelModel
-double = double-model pipe-model
-
-double-run : (s : List Bytes) (r : Run) → (out : List Bytes) × ((all-out double s r ≡ s ++ out) × AtMostTwice (all-put r) out)
-double-run s [] = ([], (sym (append-nil s), done))
-double-run s (putting m ∷ r) = go (double-run (racked (racked s m) m) r)
-  where
-    go : (out : List Bytes) × ((all-out double (racked (racked s m) m) r ≡ racked (racked s m) m ++ out) × AtMostTwice (all-put r) out) → (out : List Bytes) × ((all-out double (racked (racked s m) m) r ≡ s ++ out) × AtMostTwice (m ∷ all-put r) out)
-    go (out, (e, t)) = ⊎-elim (λ k. (out, (e ∙ ap (λ x. x ++ out) k, never t))) (⊎-elim (λ k. (m ∷ out, (e ∙ ap (λ x. x ++ out) k ∙ append-assoc s (m ∷ []) out, once t))) (λ k. (m ∷ m ∷ out, (e ∙ ap (λ x. x ++ out) k ∙ append-assoc s (m ∷ m ∷ []) out, twice t)))) (twice-racked s m)
-double-run s (taking n ∷ r) = go (double-run (take-step double s n) r)
-  where
-    go : (out : List Bytes) × ((all-out double (take-step double s n) r ≡ take-step double s n ++ out) × AtMostTwice (all-put r) out) → (out : List Bytes) × ((all-out double s (taking n ∷ r) ≡ s ++ out) × AtMostTwice (all-put r) out)
-    go (out, (e, t)) =
-        let u = take-step double s n in
-        let o = take-gives double s n in
-        (out, (ahead-append o (given double u r) (after double u r) ∙ ap (ahead o) e ∙ pipe-take s n out, t))
-
-pub gives-at-most-twice : Gives-at-most-twice
-gives-at-most-twice r = let p = double-run [] r in subst (λ out. AtMostTwice (all-put r) out) (sym (p .1 .0)) (p .1 .1)
-
-racked-twice : (s : List Bytes) (m : Bytes) → length s + 2 ≤ 8 → length m ≤ 304 → racked (racked s m) m ≡ s ++ m ∷ m ∷ []
-racked-twice s m room short =
-    let one = racked-room s m (omega arith) short in
-    let len : length (s ++ m ∷ []) < 8 = rw length-append (omega arith) in
-    ap (λ t. racked t m) one ∙ racked-room (s ++ m ∷ []) m len short ∙ append-assoc s (m ∷ []) (m ∷ [])
-
-double-order : (s : List Bytes) (r : Run) → Room double 2 s r → all-out double s r ≡ s ++ each-twice (all-put r)
-double-order s [] room = sym (append-nil s)
-double-order s (putting m ∷ r) room =
-    double-order (racked (racked s m) m) r (room .1) ∙ ap (λ x. x ++ each-twice (all-put r)) (racked-twice s m (room .0 .0) (room .0 .1)) ∙ append-assoc s (m ∷ m ∷ []) (each-twice (all-put r))
-double-order s (taking n ∷ r) room =
-    let u = take-step double s n in
-    let o = take-gives double s n in
-    ahead-append o (given double u r) (after double u r) ∙ ap (ahead o) (double-order u r room) ∙ pipe-take s n (each-twice (all-put r))
-
-pub gives-twice : Gives-twice
-gives-twice r room = double-order [] r room

@@ -50,11 +50,15 @@ module _ (C : ChannelModel) where
   abbrev pub all-out : C .State → Run → List Bytes
   all-out s r = given s r ++ C .waits (after s r)
 
-  -- at each put, k of eight places are free and the message has at most 304 bytes
-  abbrev pub Room : ℕ → C .State → Run → Type 0
-  Room k s [] = Unit {0}
-  Room k s (putting m ∷ r) = ((length (C .waits s) + k ≤ 8) × (length m ≤ 304)) × Room k (C .puts s m) r
-  Room k s (taking n ∷ r) = Room k (take-step C s n) r
+  -- that holds, at each put, of the channel and the message
+  abbrev pub At-puts : (C .State → Bytes → Type 0) → C .State → Run → Type 0
+  At-puts Holds s [] = Unit {0}
+  At-puts Holds s (putting m ∷ r) = Holds s m × At-puts Holds (C .puts s m) r
+  At-puts Holds s (taking n ∷ r) = At-puts Holds (take-step C s n) r
+
+  -- k of eight places are free, and the message has at most 304 bytes
+  abbrev pub Room : ℕ → C .State → Bytes → Type 0
+  Room k s m = (length (C .waits s) + k ≤ 8) × (length m ≤ 304)
 
 -- Any channel: what comes out waited at first or was put, and then has at most 304 bytes.
 abbrev pub Nothing-new : ChannelModel → Type 0
@@ -62,7 +66,7 @@ Nothing-new C = (s : C .State) (r : Run) (m : Bytes) → In m (all-out C s r) �
 
 -- Pipe: while it never fills, what comes out is what waited at first and what was put, in order, each once.
 abbrev pub Keeps-order : Type 0
-Keeps-order = (s : List Bytes) (r : Run) → Room pipe-model 1 s r → all-out pipe-model s r ≡ s ++ all-put r
+Keeps-order = (s : List Bytes) (r : Run) → At-puts pipe-model (Room pipe-model 1) s r → all-out pipe-model s r ≡ s ++ all-put r
 
 -- whether the i-th put is lost: every k-th is, and with k = 0 none
 abbrev pub is-lost : ℕ → ℕ → Bool
@@ -96,4 +100,4 @@ Gives-at-most-twice = (r : Run) → AtMostTwice (all-put r) (all-out (double-mod
 
 -- and each exactly twice, while two places are free at each put.
 abbrev pub Gives-twice : Type 0
-Gives-twice = (r : Run) → Room (double-model pipe-model) 2 [] r → all-out (double-model pipe-model) [] r ≡ each-twice (all-put r)
+Gives-twice = (r : Run) → At-puts (double-model pipe-model) (Room (double-model pipe-model) 2) [] r → all-out (double-model pipe-model) [] r ≡ each-twice (all-put r)

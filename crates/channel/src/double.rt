@@ -27,7 +27,7 @@ pub impl<C: Channel> Channel for Double<C> as DoubleChannel {
 
     fn put(&mut self, message: &[u8]) {
         self.inner.put(message);
-        self.inner.put(message);
+        self.inner.put(message)
     }
 
     fn take(&mut self, buffer: &mut [u8]) -> Option<usize> {
