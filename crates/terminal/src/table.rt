@@ -1,0 +1,79 @@
+ghost use mathlib.Core.Path.{_≡_};
+ghost use Prim.Native.Nat.{_<_};
+ghost use lib.ListN.{length};
+ghost use Rattle.common.specs.Search.{lowest-at};
+ghost use Rattle.slots.specs.Slots.{highest-at};
+ghost use Rattle.wire.specs.Models.{id-model};
+ghost use Rattle.terminal.specs.Terminal.{new-terminal, end-at, with-end, is-busy, is-ready, heard-target};
+ghost use Rattle.terminal.specs.Models.{terminal-model, end-model, all-stale};
+use crate::ends::EndRecord;
+use crate::ends::Opening;
+use crate::ends::OpeningChange;
+use crate::ends::Staling;
+use crate::ends::StalingChange;
+use crate::state::End;
+use crate::state::Terminal;
+use slots::SLOTS;
+use slots::SlotTable;
+use slots::highest_active;
+use slots::lowest_ready;
+use wire::SessionId;
+
+impl Terminal {
+    /// The terminal of a session just opened with that target.
+    pub fn new(id: SessionId, target: u32) -> Terminal
+        ensures { λ r. ⌜ terminal-model r ≡ new-terminal (id-model id) target ⌝ }
+    {
+        let mut terminal = Terminal {
+            id,
+            heard: target,
+            ends: [End::new(); 16],
+        };
+        terminal.hear(target);
+        terminal
+    }
+
+    /// The lowest slot that can take a new call.
+    pub(crate) fn lowest(&self) -> Option<usize>
+        ensures { λ r. ⌜ r ≡ lowest-at is-ready (terminal-model (now (self .entry)) .slots) 0 ⌝ }
+    {
+        lowest_ready(&self.ends)
+    }
+
+    /// The highest slot with an open call, or 0.
+    pub(crate) fn highest(&self) -> usize
+        ensures { λ r. ⌜ r ≡ highest-at is-busy (terminal-model (now (self .entry)) .slots) 0 0 ⌝ }
+    {
+        highest_active(&self.ends)
+    }
+
+    pub(crate) fn end_at(&self, slot: usize) -> End
+        requires { ⌜ slot < 16 ⌝ }
+        ensures { λ r. ⌜ end-model r ≡ end-at (terminal-model (now (self .entry))) slot ⌝ }
+    {
+        self.ends[slot]
+    }
+
+    pub(crate) fn put_end(&mut self, slot: usize, end: End)
+        ensures { λ _. ⌜ terminal-model (now (self .exit)) ≡ with-end (terminal-model (now (self .entry))) slot (end-model end) ⌝ }
+    {
+        let mut table = SlotTable::new(&mut self.ends);
+        table.put(slot, end);
+    }
+
+    /// Believes a target: slots 0 to it become usable.
+    pub(crate) fn hear(&mut self, target: u32)
+        ensures { λ _. ⌜ terminal-model (now (self .exit)) ≡ heard-target (terminal-model (now (self .entry))) target ⌝ }
+    {
+        self.heard = target;
+        let mut table = SlotTable::new(&mut self.ends);
+        table.change(target as usize + 1, &Opening);
+    }
+
+    pub(crate) fn stale_all(&mut self)
+        ensures { λ _. ⌜ terminal-model (now (self .exit)) ≡ all-stale (terminal-model (now (self .entry))) ⌝ }
+    {
+        let mut table = SlotTable::new(&mut self.ends);
+        table.change(SLOTS, &Staling);
+    }
+}
