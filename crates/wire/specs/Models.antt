@@ -76,17 +76,17 @@ refusal-model (Unreadable offset) = unreadable offset
 refusal-model NoCall = no-call
 
 -- a value that stands for itself
-abbrev pub same : {X : Type 0} → X → X
-same x = x
+abbrev pub itself : {X : Type 0} → X → X
+itself x = x
 
 -- lent bytes
 abbrev pub lent : RefT (List ℕ) → Bytes
 lent b = b .now
 
 -- what a call answers, by what its value stands for
-abbrev pub answered : {X Y : Type 0} → (X → Y) → Result X CodeRefusal → Result Y Refusal
-answered model (Ok x) = Ok (model x)
-answered model (Err e) = Err (refusal-model e)
+abbrev pub answer-model : {X Y : Type 0} → (X → Y) → Result X CodeRefusal → Result Y Refusal
+answer-model model (Ok x) = Ok (model x)
+answer-model model (Err e) = Err (refusal-model e)
 
 -- how many bytes were lent
 abbrev pub size-of : Result (RefT (List ℕ)) CodeRefusal → ℕ

@@ -1,10 +1,10 @@
-pub mod laws;
-pub mod messages;
-pub mod read;
+mod laws;
+mod messages;
+mod read;
 mod reader;
-pub mod refusals;
-pub mod statuses;
-pub mod write;
+mod refusals;
+mod statuses;
+mod write;
 mod writer;
 
 pub use laws::body_bounds;
@@ -12,10 +12,21 @@ pub use laws::reads_written;
 pub use messages::Reply;
 pub use messages::Request;
 pub use messages::SessionId;
+pub use messages::SessionIdDebug;
+pub use messages::SessionIdPartialEq;
 pub use read::read_reply;
 pub use read::read_request;
 pub use refusals::Place;
+pub use refusals::PlaceDebug;
+pub use refusals::PlacePartialEq;
 pub use refusals::Refusal;
+pub use refusals::RefusalDebug;
+pub use refusals::RefusalPartialEq;
 pub use statuses::Status;
+pub use statuses::StatusDebug;
+pub use statuses::StatusPartialEq;
 pub use write::write_reply;
 pub use write::write_request;
+
+#[cfg(test)]
+mod tests;

@@ -8,7 +8,7 @@ ghost use Rattle.std.specs.Vec.{made};
 ghost use Rattle.common.specs.Bytes.{be32, be64};
 ghost use Rattle.wire.specs.Wire.{is-status, padded, u32-at, permitted-at, id-at, zeros-at, body-at, end-at};
 ghost use Rattle.wire.specs.Groups.{head-model, head-at, reach-model, reach-at, last-at, request-at, reply-at};
-ghost use Rattle.wire.specs.Models.{answered, same, lent, size-of, id-model, request-model, reply-model, status-number};
+ghost use Rattle.wire.specs.Models.{answer-model, itself, lent, size-of, id-model, request-model, reply-model, status-number};
 use crate::messages::Head;
 use crate::messages::Reach;
 use crate::messages::Reply;
@@ -41,7 +41,7 @@ fn double_word(bytes: &[u8], at: usize) -> u64
 // The first of n bytes that is not 0 is reported.
 fn zeros(bytes: &[u8], at: usize, n: usize) -> Result<(), Refusal>
     requires { ⌜ at + n ≤ length (now bytes) ⌝ }
-    ensures { λ r. ⌜ answered same r ≡ zeros-at n (now (bytes .entry)) at ⌝ }
+    ensures { λ r. ⌜ answer-model itself r ≡ zeros-at n (now (bytes .entry)) at ⌝ }
 {
     for i in 0..n {
         if bytes[at + i] != 0 {
@@ -67,7 +67,7 @@ impl<'a> Reader<'a> {
 
     // A number.
     pub(crate) fn u32(&mut self) -> Result<u32, Refusal>
-        ensures value { λ r. ⌜ answered same r ≡ u32-at (now (now (self .entry) .bytes)) (now (self .entry) .at) ⌝ }
+        ensures value { λ r. ⌜ answer-model itself r ≡ u32-at (now (now (self .entry) .bytes)) (now (self .entry) .at) ⌝ }
         ensures bytes { λ _. ⌜ now (self .exit) .bytes ≡ now (self .entry) .bytes ⌝ }
         ensures at { λ r. ⌜ now (self .exit) .at ≡ cond (isOk r) (now (self .entry) .at + 4) (now (self .entry) .at) ⌝ }
     {
@@ -81,7 +81,7 @@ impl<'a> Reader<'a> {
 
     // A session id.
     pub(crate) fn id(&mut self) -> Result<SessionId, Refusal>
-        ensures value { λ r. ⌜ answered id-model r ≡ id-at (now (now (self .entry) .bytes)) (now (self .entry) .at) ⌝ }
+        ensures value { λ r. ⌜ answer-model id-model r ≡ id-at (now (now (self .entry) .bytes)) (now (self .entry) .at) ⌝ }
         ensures bytes { λ _. ⌜ now (self .exit) .bytes ≡ now (self .entry) .bytes ⌝ }
         ensures at { λ r. ⌜ now (self .exit) .at ≡ cond (isOk r) (now (self .entry) .at + 16) (now (self .entry) .at) ⌝ }
     {
@@ -96,7 +96,7 @@ impl<'a> Reader<'a> {
 
     // A number of at most `most`.
     pub(crate) fn at_most(&mut self, most: u32) -> Result<u32, Refusal>
-        ensures value { λ r. ⌜ answered same r ≡ permitted-at (λ n. leb n most) (now (now (self .entry) .bytes)) (now (self .entry) .at) ⌝ }
+        ensures value { λ r. ⌜ answer-model itself r ≡ permitted-at (λ n. leb n most) (now (now (self .entry) .bytes)) (now (self .entry) .at) ⌝ }
         ensures bytes { λ _. ⌜ now (self .exit) .bytes ≡ now (self .entry) .bytes ⌝ }
         ensures at { λ r. ⌜ now (self .exit) .at ≡ cond (isOk r) (now (self .entry) .at + 4) (now (self .entry) .at) ⌝ }
     {
@@ -111,7 +111,7 @@ impl<'a> Reader<'a> {
 
     // The number `value` itself.
     pub(crate) fn exactly(&mut self, value: u32) -> Result<u32, Refusal>
-        ensures value { λ r. ⌜ answered same r ≡ permitted-at (λ n. eqb n value) (now (now (self .entry) .bytes)) (now (self .entry) .at) ⌝ }
+        ensures value { λ r. ⌜ answer-model itself r ≡ permitted-at (λ n. eqb n value) (now (now (self .entry) .bytes)) (now (self .entry) .at) ⌝ }
         ensures bytes { λ _. ⌜ now (self .exit) .bytes ≡ now (self .entry) .bytes ⌝ }
         ensures at { λ r. ⌜ now (self .exit) .at ≡ cond (isOk r) (now (self .entry) .at + 4) (now (self .entry) .at) ⌝ }
     {
@@ -126,7 +126,7 @@ impl<'a> Reader<'a> {
 
     // A reply's status.
     pub(crate) fn status(&mut self) -> Result<Status, Refusal>
-        ensures value { λ r. ⌜ answered status-number r ≡ permitted-at is-status (now (now (self .entry) .bytes)) (now (self .entry) .at) ⌝ }
+        ensures value { λ r. ⌜ answer-model status-number r ≡ permitted-at is-status (now (now (self .entry) .bytes)) (now (self .entry) .at) ⌝ }
         ensures bytes { λ _. ⌜ now (self .exit) .bytes ≡ now (self .entry) .bytes ⌝ }
         ensures at { λ r. ⌜ now (self .exit) .at ≡ cond (isOk r) (now (self .entry) .at + 4) (now (self .entry) .at) ⌝ }
     {
@@ -143,7 +143,7 @@ impl<'a> Reader<'a> {
 
     // A length of at most `longest`, so many bytes, and their padding.
     pub(crate) fn body(&mut self, longest: u32) -> Result<&'a [u8], Refusal>
-        ensures value { λ r. ⌜ answered lent r ≡ body-at longest (now (now (self .entry) .bytes)) (now (self .entry) .at) ⌝ }
+        ensures value { λ r. ⌜ answer-model lent r ≡ body-at longest (now (now (self .entry) .bytes)) (now (self .entry) .at) ⌝ }
         ensures short { λ r. ⌜ made r (λ b. length (b .now) ≤ longest) ⌝ }
         ensures bytes { λ _. ⌜ now (self .exit) .bytes ≡ now (self .entry) .bytes ⌝ }
         ensures at { λ r. ⌜ now (self .exit) .at ≡ cond (isOk r) (now (self .entry) .at + 4 + padded (size-of r)) (now (self .entry) .at) ⌝ }
@@ -167,7 +167,7 @@ impl<'a> Reader<'a> {
 
     // Nothing more.
     pub(crate) fn end(&mut self) -> Result<(), Refusal>
-        ensures value { λ r. ⌜ answered same r ≡ end-at (now (now (self .entry) .bytes)) (now (self .entry) .at) ⌝ }
+        ensures value { λ r. ⌜ answer-model itself r ≡ end-at (now (now (self .entry) .bytes)) (now (self .entry) .at) ⌝ }
         ensures same { λ _. ⌜ now (self .exit) ≡ now (self .entry) ⌝ }
     {
         if self.left() > 0 {
@@ -178,7 +178,7 @@ impl<'a> Reader<'a> {
 
     // The fields that both messages have.
     fn head(&mut self) -> Result<Head, Refusal>
-        ensures value { λ r. ⌜ answered head-model r ≡ head-at (now (now (self .entry) .bytes)) (now (self .entry) .at) ⌝ }
+        ensures value { λ r. ⌜ answer-model head-model r ≡ head-at (now (now (self .entry) .bytes)) (now (self .entry) .at) ⌝ }
         ensures bytes { λ _. ⌜ now (self .exit) .bytes ≡ now (self .entry) .bytes ⌝ }
         ensures at { λ r. ⌜ made r (λ _. now (self .exit) .at ≡ now (self .entry) .at + 24) ⌝ }
     {
@@ -190,7 +190,7 @@ impl<'a> Reader<'a> {
 
     // Highest and target, each at most `top`, and the flags, which are 0.
     fn reach(&mut self, top: u32) -> Result<Reach, Refusal>
-        ensures value { λ r. ⌜ answered reach-model r ≡ reach-at top (now (now (self .entry) .bytes)) (now (self .entry) .at) ⌝ }
+        ensures value { λ r. ⌜ answer-model reach-model r ≡ reach-at top (now (now (self .entry) .bytes)) (now (self .entry) .at) ⌝ }
         ensures bytes { λ _. ⌜ now (self .exit) .bytes ≡ now (self .entry) .bytes ⌝ }
         ensures at { λ r. ⌜ made r (λ _. now (self .exit) .at ≡ now (self .entry) .at + 12) ⌝ }
     {
@@ -202,7 +202,7 @@ impl<'a> Reader<'a> {
 
     // A body with nothing behind it.
     fn last(&mut self, longest: u32) -> Result<&'a [u8], Refusal>
-        ensures value { λ r. ⌜ answered lent r ≡ last-at longest (now (now (self .entry) .bytes)) (now (self .entry) .at) ⌝ }
+        ensures value { λ r. ⌜ answer-model lent r ≡ last-at longest (now (now (self .entry) .bytes)) (now (self .entry) .at) ⌝ }
         ensures short { λ r. ⌜ made r (λ b. length (b .now) ≤ longest) ⌝ }
     {
         let body = self.body(longest)?;
@@ -211,7 +211,7 @@ impl<'a> Reader<'a> {
     }
 
     pub(crate) fn request(&mut self) -> Result<Request<'a>, Refusal>
-        ensures value { λ r. ⌜ answered request-model r ≡ request-at (now (now (self .entry) .bytes)) (now (self .entry) .at) ⌝ }
+        ensures value { λ r. ⌜ answer-model request-model r ≡ request-at (now (now (self .entry) .bytes)) (now (self .entry) .at) ⌝ }
         ensures short { λ r. ⌜ made r (λ q. length (q .body .now) ≤ 256) ⌝ }
     {
         self.exactly(53)?;
@@ -230,7 +230,7 @@ impl<'a> Reader<'a> {
     }
 
     pub(crate) fn reply(&mut self) -> Result<Reply<'a>, Refusal>
-        ensures value { λ r. ⌜ answered reply-model r ≡ reply-at (now (now (self .entry) .bytes)) (now (self .entry) .at) ⌝ }
+        ensures value { λ r. ⌜ answer-model reply-model r ≡ reply-at (now (now (self .entry) .bytes)) (now (self .entry) .at) ⌝ }
         ensures short { λ r. ⌜ made r (λ p. length (p .body .now) ≤ 256) ⌝ }
     {
         self.exactly(53)?;

@@ -3,7 +3,7 @@ ghost use Rattle.wire.specs.Wire.{row-of};
 ghost use Rattle.wire.specs.Models.{refusal-model, place-model};
 
 // The part of the house at which a call stops.
-#[derive(Clone, Copy)]
+#[derive(Clone, Copy, PartialEq, Eq, Debug)]
 pub enum Place {
     Buffer,
     Terminal,
@@ -14,7 +14,7 @@ pub enum Place {
 
 // Why a call stopped. It passes up through every layer as it is; what the server
 // finds wrong with a readable request is no refusal but a status, which it replies.
-#[derive(Clone, Copy)]
+#[derive(Clone, Copy, PartialEq, Eq, Debug)]
 pub enum Refusal {
     ShortScratch,
     NoTerminal,

@@ -6,7 +6,7 @@ ghost use lib.ListN.{length, take};
 ghost use Rattle.std.specs.Vec.{made};
 ghost use Rattle.std.specs.declared.result.Result.the-variants.{Err};
 ghost use Rattle.wire.specs.Wire.{short-scratch, request-message, reply-message, forbidden-request, forbidden-reply, permits, write-answer, write-out};
-ghost use Rattle.wire.specs.Models.{answered, same, request-model, reply-model};
+ghost use Rattle.wire.specs.Models.{answer-model, itself, request-model, reply-model};
 ghost use Rattle.wire.specs.Written.{written};
 use crate::messages::Reply;
 use crate::messages::Request;
@@ -81,7 +81,7 @@ impl Reply<'_> {
 
 // Whether a message may be written: the buffer is judged first, then the fields.
 fn permit(room: usize, forbidden: Option<usize>) -> Result<(), Refusal>
-    ensures { λ r. ⌜ answered same r ≡ cond (ltb room 304) (Err short-scratch) (permits tt forbidden) ⌝ }
+    ensures { λ r. ⌜ answer-model itself r ≡ cond (ltb room 304) (Err short-scratch) (permits tt forbidden) ⌝ }
 {
     if room < 304 {
         return Err(Refusal::ShortScratch);
@@ -95,8 +95,8 @@ fn permit(room: usize, forbidden: Option<usize>) -> Result<(), Refusal>
 // Writes a request into the front of a buffer of at least 304 bytes, and tells its length.
 // A refusal leaves the buffer as it was.
 pub fn write_request(request: Request<'_>, out: &mut [u8]) -> Result<usize, Refusal>
-    ensures answer { λ r. ⌜ answered same r ≡ write-answer (forbidden-request (request-model (request .entry))) (request-message (request-model (request .entry))) (length (now (out .entry))) ⌝ }
-    ensures out { λ r. ⌜ now (out .exit) ≡ write-out (request-message (request-model (request .entry))) (now (out .entry)) (answered same r) ⌝ }
+    ensures answer { λ r. ⌜ answer-model itself r ≡ write-answer (forbidden-request (request-model (request .entry))) (request-message (request-model (request .entry))) (length (now (out .entry))) ⌝ }
+    ensures out { λ r. ⌜ now (out .exit) ≡ write-out (request-message (request-model (request .entry))) (now (out .entry)) (answer-model itself r) ⌝ }
     ensures message { λ r. ⌜ made r (λ n. take n (now (out .exit)) ≡ request-message (request-model (request .entry))) ⌝ }
     ensures fits { λ r. ⌜ made r (λ n. n ≤ 304) ⌝ }
 {
@@ -106,8 +106,8 @@ pub fn write_request(request: Request<'_>, out: &mut [u8]) -> Result<usize, Refu
 
 // Writes a reply likewise.
 pub fn write_reply(reply: Reply<'_>, out: &mut [u8]) -> Result<usize, Refusal>
-    ensures answer { λ r. ⌜ answered same r ≡ write-answer (forbidden-reply (reply-model (reply .entry))) (reply-message (reply-model (reply .entry))) (length (now (out .entry))) ⌝ }
-    ensures out { λ r. ⌜ now (out .exit) ≡ write-out (reply-message (reply-model (reply .entry))) (now (out .entry)) (answered same r) ⌝ }
+    ensures answer { λ r. ⌜ answer-model itself r ≡ write-answer (forbidden-reply (reply-model (reply .entry))) (reply-message (reply-model (reply .entry))) (length (now (out .entry))) ⌝ }
+    ensures out { λ r. ⌜ now (out .exit) ≡ write-out (reply-message (reply-model (reply .entry))) (now (out .entry)) (answer-model itself r) ⌝ }
     ensures message { λ r. ⌜ made r (λ n. take n (now (out .exit)) ≡ reply-message (reply-model (reply .entry))) ⌝ }
     ensures fits { λ r. ⌜ made r (λ n. n ≤ 304) ⌝ }
 {
