@@ -1,4 +1,5 @@
 pub mod History
+pub mod Houses
 pub mod Lived
 pub mod Promise
 pub mod Steps
