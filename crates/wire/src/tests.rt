@@ -1,122 +1,43 @@
+use crate::messages::Reply;
+use crate::messages::Request;
+use crate::messages::SessionId;
 use crate::read::read_reply;
 use crate::read::read_request;
 use crate::refusals::Refusal;
 use crate::refusals::RefusalDebug;
 use crate::refusals::RefusalPartialEq;
+use crate::statuses::Status;
 use crate::write::write_reply;
 use crate::write::write_request;
 use std::test::*;
 
-// A request and a reply with a body of three bytes; four more bytes are there for a surplus.
-const REQUEST: [u8; 48] = [
-    0,
-    0,
-    0,
-    53,
-    0,
-    0,
-    0,
-    0,
-    0,
-    0,
-    0,
-    7,
-    0,
-    0,
-    0,
-    0,
-    0,
-    0,
-    1,
-    2,
-    0,
-    0,
-    0,
-    5,
-    0,
-    0,
-    0,
-    3,
-    0,
-    0,
-    0,
-    4,
-    0,
-    0,
-    0,
-    1,
-    0,
-    0,
-    0,
-    3,
-    10,
-    20,
-    30,
-    0,
-    0,
-    0,
-    0,
-    0,
-];
+const ID: SessionId = SessionId {
+    boot: 7,
+    count: 258,
+};
 
-const REPLY: [u8; 56] = [
-    0,
-    0,
-    0,
-    53,
-    0,
-    0,
-    0,
-    0,
-    0,
-    0,
-    0,
-    0,
-    0,
-    0,
-    0,
-    7,
-    0,
-    0,
-    0,
-    0,
-    0,
-    0,
-    1,
-    2,
-    0,
-    0,
-    0,
-    5,
-    0,
-    0,
-    0,
-    3,
-    0,
-    0,
-    0,
-    15,
-    0,
-    0,
-    0,
-    9,
-    0,
-    0,
-    0,
-    0,
-    0,
-    0,
-    0,
-    3,
-    10,
-    20,
-    30,
-    0,
-    0,
-    0,
-    0,
-    0,
-];
+fn request() -> Request<'static> {
+    Request {
+        id: ID,
+        number: 5,
+        slot: 3,
+        highest: 4,
+        keep: true,
+        body: b"rye",
+    }
+}
+
+fn reply() -> Reply<'static> {
+    Reply {
+        status: Status::Ok,
+        id: ID,
+        number: 5,
+        slot: 3,
+        highest: 15,
+        target: 9,
+        body: b"rye",
+    }
+}
 
 // A byte put at an offset, the length that the message is cut to, and where reading it stops.
 type Damage = (usize, u8, usize, Option<usize>);
@@ -152,16 +73,23 @@ fn stop<T: Drop>(answer: Result<T, Refusal>) -> Option<usize> {
 }
 
 #[test]
-fn damaged_messages_stop_at_the_damage() -> Result<(), Fail> {
+fn damaged_requests_stop_at_the_damage() -> Result<(), Fail> {
     for (at, byte, cut, stops) in REQUESTS {
-        let mut bytes = REQUEST;
-        check(at < 48 && cut <= 48)?;
+        let mut bytes = [0; 304];
+        check_eq(write_request(request(), &mut bytes), Ok(44))?;
+        check(at < 304 && cut <= 304)?;
         bytes[at] = byte;
         check_eq(stop(read_request(&bytes[0..cut])), stops)?;
     }
+    Ok(())
+}
+
+#[test]
+fn damaged_replies_stop_at_the_damage() -> Result<(), Fail> {
     for (at, byte, cut, stops) in REPLIES {
-        let mut bytes = REPLY;
-        check(at < 56 && cut <= 56)?;
+        let mut bytes = [0; 304];
+        check_eq(write_reply(reply(), &mut bytes), Ok(52))?;
+        check(at < 304 && cut <= 304)?;
         bytes[at] = byte;
         check_eq(stop(read_reply(&bytes[0..cut])), stops)?;
     }
@@ -169,16 +97,20 @@ fn damaged_messages_stop_at_the_damage() -> Result<(), Fail> {
 }
 
 #[test]
-fn what_is_read_is_written_again() -> Result<(), Fail> {
+fn a_refused_write_leaves_its_buffer() -> Result<(), Fail> {
+    let long = [1; 257];
+    let request = Request {
+        body: &long,
+        ..request()
+    };
     let mut out = [238; 304];
-    let request = read_request(&REQUEST[0..44])?;
-    check_eq(write_request(request, &mut out)?, 44)?;
-    check(out[0..44] == REQUEST[0..44] && out[44] == 238)?;
-    let reply = read_reply(&REPLY[0..52])?;
-    check_eq(write_reply(reply, &mut out)?, 52)?;
-    check(out[0..52] == REPLY[0..52] && out[52] == 238)?;
     check_eq(
-        write_reply(reply, &mut out[0..303]),
+        write_request(request, &mut out),
+        Err(Refusal::Unreadable { offset: 36 }),
+    )?;
+    check_eq(
+        write_request(request, &mut out[0..303]),
         Err(Refusal::ShortScratch),
-    )
+    )?;
+    check(out == [238; 304])
 }
