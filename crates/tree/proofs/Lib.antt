@@ -1,1 +1,3 @@
 mod Bodies
+mod Searches
+mod Walks

@@ -1,4 +1,5 @@
 pub mod Asks
+pub mod Contents
 pub mod Forms
 pub mod Laws
 pub mod Replies

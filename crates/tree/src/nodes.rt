@@ -1,6 +1,11 @@
+ghost use mathlib.Core.Path.{_≡_};
 ghost use Prim.Native.Nat.{_≤_};
+ghost use lib.ListN.{length};
 mod ids;
 mod names;
+mod places;
+mod reads;
+mod steps;
 
 /// The number of a node, 0 to 63.
 #[derive(Clone, Copy)]
@@ -36,4 +41,12 @@ pub struct Node {
 #[derive(Drop)]
 pub struct Tree {
     nodes: [Option<Node>; 64],
+    ghost whole: { length nodes ≡ 64 },
+}
+
+// What a search looks for: any node in a folder, or the one that has a name there.
+#[derive(Clone, Copy)]
+enum Wanted {
+    In(NodeId),
+    Named(NodeId, Name),
 }

@@ -52,4 +52,13 @@ impl Kind {
             Kind::Card => b'f',
         }
     }
+
+    pub fn is_folder(self) -> bool
+        ensures { λ r. ⌜ r ≡ eqb (kind-letter self) 100 ⌝ }
+    {
+        match self {
+            Kind::Folder => true,
+            Kind::Card => false,
+        }
+    }
 }

@@ -1,0 +1,102 @@
+ghost use mathlib.Core.Path.{_≡_};
+ghost use lib.ListN.{set};
+ghost use Rattle.std.specs.declared.option.Option.the-variants.{None};
+ghost use Rattle.std.specs.Options.{isSome};
+ghost use Rattle.tree.specs.Tree.{first-nodes, node-at, is-there, is-folder, named, other-named, is-empty, is-within};
+ghost use Rattle.tree.specs.Forms.{id-number, name-bytes, read-id};
+ghost use Rattle.tree.specs.Contents.{place-model, nodes-of};
+use crate::nodes::Kind;
+use crate::nodes::Name;
+use crate::nodes::Node;
+use crate::nodes::NodeId;
+use crate::nodes::Tree;
+use crate::nodes::Wanted;
+
+impl Tree {
+    /// The root alone.
+    pub fn new() -> Tree
+        ensures { λ r. ⌜ nodes-of r ≡ first-nodes ⌝ }
+    {
+        let mut nodes = [None; 64];
+        nodes[0] = Some(Node {
+            parent: None,
+            kind: Kind::Folder,
+            name: Name::empty(),
+        });
+        Tree { nodes }
+    }
+
+    fn at(&self, node: NodeId) -> Option<Node>
+        ensures { λ r. ⌜ place-model r ≡ node-at (nodes-of (now (self .entry))) (id-number node) ⌝ }
+    {
+        self.nodes[node.number() as usize]
+    }
+
+    pub(super) fn is_there(&self, node: NodeId) -> bool
+        ensures { λ r. ⌜ r ≡ is-there (nodes-of (now (self .entry))) (id-number node) ⌝ }
+    {
+        self.at(node).is_some()
+    }
+
+    pub(super) fn is_folder(&self, node: NodeId) -> bool
+        ensures { λ r. ⌜ r ≡ is-folder (nodes-of (now (self .entry))) (id-number node) ⌝ }
+    {
+        match self.at(node) {
+            Some(found) => found.kind.is_folder(),
+            None => false,
+        }
+    }
+
+    // The node that has a name in a folder.
+    pub(super) fn named(&self, folder: NodeId, name: Name) -> Option<NodeId>
+        ensures { λ r. ⌜ read-id r ≡ named (nodes-of (now (self .entry))) (id-number folder) (name-bytes name) ⌝ }
+    {
+        match Wanted::Named(folder, name).find(&self.nodes) {
+            Some(i) => NodeId::read(i as u8),
+            None => None,
+        }
+    }
+
+    // The other nodes.
+    fn without(&self, node: NodeId) -> Tree
+        ensures { λ r. ⌜ nodes-of r ≡ set (nodes-of (now (self .entry))) (id-number node) None ⌝ }
+    {
+        let mut nodes = self.nodes;
+        nodes[node.number() as usize] = None;
+        Tree { nodes }
+    }
+
+    // Another node has the name there.
+    pub(super) fn other_named(&self, folder: NodeId, name: Name, node: NodeId) -> bool
+        ensures { λ r. ⌜ r ≡ other-named (nodes-of (now (self .entry))) (id-number folder) (name-bytes name) (id-number node) ⌝ }
+    {
+        self.without(node).named(folder, name).is_some()
+    }
+
+    // Nothing lies in the folder.
+    pub(super) fn is_empty(&self, folder: NodeId) -> bool
+        ensures { λ r. ⌜ r ≡ is-empty (nodes-of (now (self .entry))) (id-number folder) ⌝ }
+    {
+        Wanted::In(folder).find(&self.nodes).is_none()
+    }
+
+    // The node is `top` or lies beneath it: from it up, folder by folder, `top` is met.
+    pub(super) fn is_within(&self, top: NodeId, node: NodeId) -> bool
+        ensures { λ r. ⌜ r ≡ is-within 64 (nodes-of (now (self .entry))) (id-number top) (id-number node) ⌝ }
+    {
+        let mut next = Some(node);
+        for _ in 0..64u8 {
+            let Some(here) = next else {
+                return false;
+            };
+            let Some(found) = self.at(here) else {
+                return false;
+            };
+            if here.is(top) {
+                return true;
+            }
+            next = found.parent;
+        }
+        false
+    }
+}
