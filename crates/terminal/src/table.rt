@@ -35,7 +35,8 @@ impl Terminal {
 
     /// The lowest slot that can take a new call.
     pub(crate) fn lowest(&self) -> Option<usize>
-        ensures { λ r. ⌜ r ≡ lowest-at is-ready (terminal-model (now (self .entry)) .slots) 0 ⌝ }
+        ensures value { λ r. ⌜ r ≡ lowest-at is-ready (terminal-model (now (self .entry)) .slots) 0 ⌝ }
+        ensures sixteen { λ _. ⌜ length (terminal-model (now (self .entry)) .slots) ≡ 16 ⌝ }
     {
         lowest_ready(&self.ends)
     }
@@ -49,7 +50,8 @@ impl Terminal {
 
     pub(crate) fn end_at(&self, slot: usize) -> End
         requires { ⌜ slot < 16 ⌝ }
-        ensures { λ r. ⌜ end-model r ≡ end-at (terminal-model (now (self .entry))) slot ⌝ }
+        ensures value { λ r. ⌜ end-model r ≡ end-at (terminal-model (now (self .entry))) slot ⌝ }
+        ensures sixteen { λ _. ⌜ length (terminal-model (now (self .entry)) .slots) ≡ 16 ⌝ }
     {
         self.ends[slot]
     }
