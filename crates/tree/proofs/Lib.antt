@@ -1,3 +1,4 @@
 mod Bodies
+mod Names
 mod Searches
 mod Walks

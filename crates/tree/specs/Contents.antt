@@ -8,6 +8,8 @@ use Rattle.tree.specs.Tree as tree
 use Rattle.tree.specs.Tree.{Nodes, lies-in, is-named}
 use Rattle.tree.specs.Forms.{id-number, kind-letter, name-bytes}
 use Rattle.tree.specs.declared.nodes.NodeId.{NodeId}
+use Rattle.tree.specs.declared.nodes.Kind.{Kind}
+use Rattle.tree.specs.declared.nodes.Name.{Name}
 use Rattle.tree.specs.declared.nodes.Node.{Node}
 use Rattle.tree.specs.declared.nodes.Tree.{Tree}
 use Rattle.tree.specs.declared.nodes.Wanted.{Wanted}
@@ -39,3 +41,7 @@ nodes-of t = places-model (t .nodes)
 abbrev pub wants : Wanted → Option tree.Node → Bool
 wants (In folder) = lies-in (id-number folder)
 wants (Named folder name) = is-named (id-number folder) (name-bytes name)
+
+-- a node in that folder, of that kind and name
+abbrev pub node-of : NodeId → Kind → Name → tree.Node
+node-of parent kind name = record { parent = id-number parent; kind = kind-letter kind; name = name-bytes name }

@@ -8,5 +8,6 @@ pub use nodes::Kind;
 pub use nodes::Name;
 pub use nodes::NodeId;
 pub use nodes::Tree;
+pub use nodes::steps::TreeService;
 pub use reply::Answer;
 pub use reply::Refused;

@@ -5,7 +5,7 @@ mod ids;
 mod names;
 mod places;
 mod reads;
-mod steps;
+pub mod steps;
 
 /// The number of a node, 0 to 63.
 #[derive(Clone, Copy)]

@@ -1,10 +1,11 @@
 ghost use mathlib.Core.Path.{_≡_};
+ghost use mathlib.Core.Bool.{true};
 ghost use lib.ListN.{set};
-ghost use Rattle.std.specs.declared.option.Option.the-variants.{None};
-ghost use Rattle.std.specs.Options.{isSome};
-ghost use Rattle.tree.specs.Tree.{first-nodes, node-at, is-there, is-folder, named, other-named, is-empty, is-within};
-ghost use Rattle.tree.specs.Forms.{id-number, name-bytes, read-id};
-ghost use Rattle.tree.specs.Contents.{place-model, nodes-of};
+ghost use Rattle.std.specs.declared.option.Option.the-variants.{Some, None};
+ghost use Rattle.std.specs.Options.{isSome, Cases};
+ghost use Rattle.tree.specs.Tree.{first-nodes, node-at, kind-of, is-there, is-folder, named, other-named, is-empty, is-within};
+ghost use Rattle.tree.specs.Forms.{id-number, kind-letter, name-bytes, read-id};
+ghost use Rattle.tree.specs.Contents.{place-model, nodes-of, node-of};
 use crate::nodes::Kind;
 use crate::nodes::Name;
 use crate::nodes::Node;
@@ -47,9 +48,30 @@ impl Tree {
         }
     }
 
+    pub(super) fn kind_of(&self, node: NodeId) -> Kind
+        requires { ⌜ is-there (nodes-of (now self)) (id-number node) ≡ true ⌝ }
+        ensures { λ r. ⌜ kind-letter r ≡ kind-of (node-at (nodes-of (now (self .entry))) (id-number node)) ⌝ }
+    {
+        match self.at(node) {
+            Some(found) => found.kind,
+            None => unreachable(),
+        }
+    }
+
+    pub(super) fn put(&mut self, parent: NodeId, node: NodeId, kind: Kind, name: Name)
+        ensures { λ _. ⌜ nodes-of (now (self .exit)) ≡ set (nodes-of (now (self .entry))) (id-number node) (Some (node-of parent kind name)) ⌝ }
+    {
+        self.nodes[node.number() as usize] = Some(Node {
+            parent: Some(parent),
+            kind,
+            name,
+        });
+    }
+
     // The node that has a name in a folder.
     pub(super) fn named(&self, folder: NodeId, name: Name) -> Option<NodeId>
-        ensures { λ r. ⌜ read-id r ≡ named (nodes-of (now (self .entry))) (id-number folder) (name-bytes name) ⌝ }
+        ensures there { λ r. ⌜ Cases r (Unit {0}) (λ i. is-there (nodes-of (now (self .entry))) (id-number i) ≡ true) ⌝ }
+        ensures value { λ r. ⌜ read-id r ≡ named (nodes-of (now (self .entry))) (id-number folder) (name-bytes name) ⌝ }
     {
         match Wanted::Named(folder, name).find(&self.nodes) {
             Some(i) => NodeId::read(i as u8),
@@ -58,7 +80,7 @@ impl Tree {
     }
 
     // The other nodes.
-    fn without(&self, node: NodeId) -> Tree
+    pub(super) fn without(&self, node: NodeId) -> Tree
         ensures { λ r. ⌜ nodes-of r ≡ set (nodes-of (now (self .entry))) (id-number node) None ⌝ }
     {
         let mut nodes = self.nodes;
