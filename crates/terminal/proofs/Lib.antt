@@ -1,2 +1,3 @@
+mod Accepts
 mod Shown
 mod Steps

@@ -1,3 +1,4 @@
 pub mod Models
+pub mod Replies
 pub mod Sends
 pub mod Terminal
