@@ -12,8 +12,10 @@ ghost use Rattle.slots.specs.Slots.{highest-at, front-changed, next-number, ha
 
 mod bodies;
 pub mod body;
+pub mod counts;
 
 pub use body::Body;
+pub use counts::count_active;
 
 /// How many slots a session has, at both ends.
 pub const SLOTS: usize = 16;

@@ -11,6 +11,8 @@ use Rattle.std.specs.declared.option.Option.{Option}
 use Rattle.std.specs.declared.option.Option.the-variants.{Some, None}
 use Rattle.common.specs.Search.{lowest-at}
 use Rattle.slots.specs.Slots.{highest-at, front-changed}
+use Rattle.slots.specs.Counts.{count-where}
+use Rattle.slots.proofs.Counting.{count-map}
 use Rattle.slots.proofs.Slots.{lowest-map, highest-map, front-shown, front-map}
 use Rattle.wire.specs.Wire.{SessionId}
 use Rattle.terminal.specs.declared.state.OpenCall.{OpenCall as CodeCall}
@@ -39,6 +41,9 @@ module _ (es : List End) where
 
   pub highest-shown : highest-at (λ (e : End). is-busy (end-model e)) es 0 0 ≡ highest-at is-busy (map end-model es) 0 0
   highest-shown = sym (highest-map is-busy end-model es 0 0)
+
+  pub count-shown : count-where (λ (e : End). is-busy (end-model e)) es ≡ count-where is-busy (map end-model es)
+  count-shown = sym (count-map is-busy end-model es)
 
   pub end-shown : (i : ℕ) (d : End) → i < length es → end-model (getD es i d) ≡ getD (map end-model es) i new-end
   end-shown i d h = sym (getD-map end-model es i d new-end h)

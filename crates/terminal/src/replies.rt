@@ -31,7 +31,11 @@ impl End {
     fn call_numbered(&self, number: u32) -> Option<OpenCall>
         ensures { λ r. ⌜ mapped call-model r ≡ call-numbered number (end-model (now (self .entry))) ⌝ }
     {
-        if self.number == number { self.call } else { None }
+        if self.number == number {
+            self.call
+        } else {
+            None
+        }
     }
 }
 

@@ -3,6 +3,8 @@ ghost use Prim.Native.Nat.{_<_};
 ghost use lib.ListN.{length};
 ghost use Rattle.common.specs.Search.{lowest-at};
 ghost use Rattle.slots.specs.Slots.{highest-at};
+ghost use Rattle.slots.specs.Counts.{count-where};
+ghost use Rattle.wire.specs.Wire.{same-id};
 ghost use Rattle.wire.specs.Models.{id-model};
 ghost use Rattle.terminal.specs.Terminal.{new-terminal, end-at, with-end, is-busy, is-ready, heard-target};
 ghost use Rattle.terminal.specs.Models.{terminal-model, end-model, all-stale};
@@ -15,6 +17,7 @@ use crate::state::End;
 use crate::state::Terminal;
 use slots::SLOTS;
 use slots::SlotTable;
+use slots::count_active;
 use slots::highest_active;
 use slots::lowest_ready;
 use wire::SessionId;
@@ -31,6 +34,33 @@ impl Terminal {
         };
         terminal.hear(target);
         terminal
+    }
+
+    pub fn id(&self) -> SessionId
+        ensures { λ r. ⌜ id-model r ≡ terminal-model (now (self .entry)) .id ⌝ }
+    {
+        self.id
+    }
+
+    /// Whether this is the terminal of that session.
+    pub fn has_id(&self, id: SessionId) -> bool
+        ensures { λ r. ⌜ r ≡ same-id (terminal-model (now (self .entry)) .id) (id-model id) ⌝ }
+    {
+        self.id.same(id)
+    }
+
+    /// The target that was heard last.
+    pub fn heard(&self) -> u32
+        ensures { λ r. ⌜ r ≡ terminal-model (now (self .entry)) .heard ⌝ }
+    {
+        self.heard
+    }
+
+    /// How many calls are open.
+    pub fn open_calls(&self) -> usize
+        ensures { λ r. ⌜ r ≡ count-where is-busy (terminal-model (now (self .entry)) .slots) ⌝ }
+    {
+        count_active(&self.ends)
     }
 
     /// The lowest slot that can take a new call.
