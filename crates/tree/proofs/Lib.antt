@@ -1,4 +1,7 @@
 mod Bodies
+mod Counts
 mod Names
 mod Searches
+mod Shape
+mod Steps
 mod Walks

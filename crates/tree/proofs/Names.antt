@@ -2,7 +2,7 @@
 use mathlib.Core.Path.{_≡_, refl, sym, ap, _∙_}
 use mathlib.Core.Bool.{Bool, true, false, cond}
 use mathlib.Core.List.{List, [], _∷_}
-use Prim.Native.Nat.{ℕ, suc, _+_, _-_, _≤_}
+use Prim.Native.Nat.{ℕ, zero, suc, _+_, _-_, _≤_}
 use native.Mathlib.Omega.{arith}
 use borrow.Author.Tests.{clash}
 use lib.ListN.{getD}
@@ -43,3 +43,21 @@ found-named ns parent name i e =
 pub found-there : (ns : Nodes) (parent : ℕ) (name : Bytes) (r : Option NodeId) → read-id r ≡ named ns parent name → Cases r (Unit {0}) (λ i. is-there ns (id-number i) ≡ true)
 found-there ns parent name None e = tt
 found-there ns parent name (Some i) e = named-is-there (node-at ns (id-number i)) parent name (found-named ns parent name (id-number i) (sym e))
+
+-- where nothing is found, nothing passes the test
+pub lowest-none : {X : Type 0} (test : X → Bool) (xs : List X) (k j : ℕ) (d : X) → test d ≡ false → isSome (lowest-at test xs k) ≡ false → test (getD xs j d) ≡ false
+lowest-none test [] k j d fails none = fails
+lowest-none test (x ∷ xs) k j d fails none = go (test x) j refl (λ i e. lowest-none test xs (k + 1) i d fails e) none
+  where
+    go : (t : Bool) (j : ℕ) → test x ≡ t → ((i : ℕ) → isSome (lowest-at test xs (k + 1)) ≡ false → test (getD xs i d) ≡ false) → isSome (cond t (Some k) (lowest-at test xs (k + 1))) ≡ false → test (getD (x ∷ xs) j d) ≡ false
+    go true j e rest none = absurd (clash (sym none))
+    go false zero e rest none = e
+    go false (suc j) e rest none = rest j none
+
+-- what passes is found
+pub lowest-some : {X : Type 0} (test : X → Bool) (xs : List X) (j : ℕ) (d : X) → test d ≡ false → test (getD xs j d) ≡ true → (i : ℕ) × (lowest-at test xs 0 ≡ Some i)
+lowest-some test xs j d fails passes = go (lowest-at test xs 0) refl
+  where
+    go : (o : Option ℕ) → lowest-at test xs 0 ≡ o → (i : ℕ) × (lowest-at test xs 0 ≡ Some i)
+    go None e = absurd (clash (sym (lowest-none test xs 0 j d fails (ap isSome e)) ∙ passes))
+    go (Some i) e = (i, e)

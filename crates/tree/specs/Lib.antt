@@ -3,4 +3,5 @@ pub mod Contents
 pub mod Forms
 pub mod Laws
 pub mod Replies
+pub mod Shape
 pub mod Tree

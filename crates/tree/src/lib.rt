@@ -1,6 +1,7 @@
 //! The name tree: 64 nodes, folders and cards, of which node 0 is the root folder; a service that makes, removes, moves and looks up.
 mod body;
 mod nodes;
+mod reached;
 mod reply;
 
 pub use body::Ask;
@@ -9,5 +10,6 @@ pub use nodes::Name;
 pub use nodes::NodeId;
 pub use nodes::Tree;
 pub use nodes::steps::TreeService;
+pub use reached::stays_a_tree;
 pub use reply::Answer;
 pub use reply::Refused;
