@@ -8,7 +8,7 @@ use lib.ListN.{length}
 use Rattle.std.proofs.shelf.Tests.{cases-lt}
 use Rattle.std.specs.declared.option.Option.the-variants.{Some}
 use Rattle.common.specs.Bytes.{Bytes}
-use Rattle.wire.specs.Wire.{SessionId, Request, Reply}
+use Rattle.wire.specs.Wire.{Request, Reply}
 use Rattle.server.specs.Server.{SlotM, SessionM, Last, never, in-progress, kept, not-kept, slot-at}
 use Rattle.terminal.specs.Terminal.{TerminalM, Effect}
 use Rattle.exactly_once.specs.History.{Told, run, aside, Event, History, At}
@@ -19,7 +19,7 @@ use Rattle.exactly_once.proofs.Growth.{flip, grown}
 use Rattle.exactly_once.proofs.Tables.{some-same}
 use Rattle.exactly_once.proofs.Unique.{Orders, ran-one}
 use Rattle.exactly_once.proofs.Newest.{Opens, Ends-session, Replies, Hears, Resumes, Runs, ordered-new, opened-new, stands-new, stands-kept, session-new, session-still, session-old, session-kept, open-new, open-still, heard-new, heard-still, runs-new, runs-now, ran-new, ran-still, resumed-new}
-use Rattle.exactly_once.proofs.Invariant.{Known, Put, Aside, By-last, Holds, Answers, By-status, Calls, Terminal-side, Server-side, Both-sides}
+use Rattle.exactly_once.proofs.Invariant.{Known, Put, Aside, By-last, Holds, Answers, By-status, Terminal-side, Server-side, Both-sides}
 
 -- the same call, otherwise placed in a history
 known-at : {h k : History} {t o : ℕ} {c : Call} {f : Request} → Known h t o c f → Ordered k t c → Session k (c .terminal) o t → Known k t o c f
@@ -59,6 +59,21 @@ module _ (e : Event) (h : History) where
   pub aside-still : (o : ℕ) (c : Call) → Aside h o c → (Resumes e (c .terminal) (c .slot) → ⊥) → Aside (e ∷ h) o c
   aside-still o c z none =
       (z .0, growth.first-heard (grown e h) o c (z .0) aside (at-below h (z .0) (z .1 .0 .0) (z .1 .0 .2)) (z .1), λ y a b r. ⊎-elim (λ q. none (q .1)) (λ q. z .2 y a (q .0) (q .1)) (resumed-new e h (c .terminal) (c .slot) y r))
+
+  -- set aside before, unless by this event
+  pub aside-old : (o : ℕ) (c : Call) → (Hears e c aside → Stands h (c .terminal) o (length h) → Heard-before h o c (length h)) → Aside (e ∷ h) o c → Aside h o c
+  aside-old o c again z = ⊎-elim earlier now (cases-lt (z .0) (length h))
+    where
+      now : length h ≤ z .0 → Aside h o c
+      now le =
+          let is : z .0 ≡ length h = omega (arith, le, at-below (e ∷ h) (z .0) (z .1 .0 .0) (z .1 .0 .2)) in
+          let st : Stands h (c .terminal) o (length h) = growth.stands (flip (grown e h)) (c .terminal) o (length h) (omega arith) (subst (λ x. Stands (e ∷ h) (c .terminal) o x) is (z .1 .0 .5)) in
+          let same : z .1 .0 .0 ≡ e = newest-is e h (z .1 .0 .0) (subst (λ x. At (e ∷ h) x (z .1 .0 .0)) is (z .1 .0 .2)) in
+          let old : Heard-before h o c (length h) = again (subst (λ x. Hears x c aside) same (z .1 .0 .1, z .1 .0 .3, z .1 .0 .4)) st in
+          absurd (z .1 .1 (subst (λ x. Heard-before (e ∷ h) o c x) (sym is) (growth.heard-before (grown e h) o c (length h) (omega arith) old)))
+
+      earlier : z .0 < length h → Aside h o c
+      earlier lt = (z .0, growth.first-heard (flip (grown e h)) o c (z .0) aside lt (z .1), λ y a b r. z .2 y a (omega (arith, b)) (growth.resumed (grown e h) (c .terminal) (c .slot) y b r))
 
   pub aside-now : (o : ℕ) (c : Call) → Hears e c aside → (Heard-before h o c (length h) → ⊥) → Stands h (c .terminal) o (length h) → Aside (e ∷ h) o c
   aside-now o c z new st =
@@ -145,7 +160,7 @@ module _ (e : Event) (h : History) (q : Quiet h e) where
     heard = λ t o c f k z. ⊎-elim (λ x. x) (λ x. q .heard-again t o c f (x .0) (quiet-known t o c f k) (x .1) (x .2)) (heard-new e h o c z);
     ran = λ t o c f k z. ⊎-elim (λ x. x) (λ x. absurd (quiet-runs t o c f (quiet-known t o c f k) x)) (ran-new e h o c z);
     put = λ t o c f m k z. ⊎-elim (λ x. x) (λ x. absurd (quiet-runs t o c f (quiet-known t o c f k) (x .0))) (put-new e h o c m z);
-    set-aside = λ t o c f k z. aside-before t o c f k z;
+    set-aside = λ t o c f k z. aside-old e h o c (q .heard-again t o c f aside (quiet-known t o c f k)) z;
   }
     where
       newest-order : (t o : ℕ) (c : Call) (f : Request) → Known (e ∷ h) t o c f → t ≡ length h → ⊥
@@ -153,33 +168,7 @@ module _ (e : Event) (h : History) (q : Quiet h e) where
           let z = quiet-known t o c f k in
           omega (arith, at-below h t (z .ordered .0) (z .ordered .1), x)
 
-      aside-before : (t o : ℕ) (c : Call) (f : Request) → Known (e ∷ h) t o c f → Aside (e ∷ h) o c → Aside h o c
-      aside-before t o c f k z = ⊎-elim now earlier (cases-lt (z .0) (length h))
-        where
-          earlier : length h ≤ z .0 → Aside h o c
-          earlier le =
-              let is : z .0 ≡ length h = omega (arith, le, at-below (e ∷ h) (z .0) (z .1 .0 .0) (z .1 .0 .2)) in
-              let st : Stands h (c .terminal) o (length h) = growth.stands (flip (grown e h)) (c .terminal) o (length h) (omega arith) (subst (λ x. Stands (e ∷ h) (c .terminal) o x) is (z .1 .0 .5)) in
-              let same : z .1 .0 .0 ≡ e = newest-is e h (z .1 .0 .0) (subst (λ x. At (e ∷ h) x (z .1 .0 .0)) is (z .1 .0 .2)) in
-              let hears : Hears e c aside = subst (λ x. Hears x c aside) same (z .1 .0 .1, z .1 .0 .3, z .1 .0 .4) in
-              let old : Heard-before h o c (length h) = q .heard-again t o c f aside (quiet-known t o c f k) hears st in
-              absurd (z .1 .1 (subst (λ x. Heard-before (e ∷ h) o c x) (sym is) (growth.heard-before (grown e h) o c (length h) (omega arith) old)))
-
-          now : z .0 < length h → Aside h o c
-          now lt = (z .0, growth.first-heard (flip (grown e h)) o c (z .0) aside lt (z .1), λ y a b r. z .2 y a (omega (arith, b)) (growth.resumed (grown e h) (c .terminal) (c .slot) y b r))
-
 -- the invariant's parts, carried both ways
-module _ {h k : History} (up : Carries h k) (down : Carries k h) where
-  pub calls-carried : (ids : ℕ → SessionId) → Calls h ids → Calls k ids
-  calls-carried ids x = record {
-    known = λ t c z. (let w = x .known t c (down .ordered t c z) in (w .0, w .1, up .known t (w .0) c (w .1) (w .2)));
-    named = λ t o c f z. x .named t o c f (down .known t o c f z);
-    numbered = λ t o c f z. x .numbered t o c f (down .known t o c f z);
-    placed = λ t o c f z. x .placed t o c f (down .known t o c f z);
-    formed = λ t o c f z. x .formed t o c f (down .known t o c f z);
-    once = λ t u o c d f g z w. x .once t u o c d f g (down .known t o c f z) (down .known u o d g w);
-  }
-
 module _ {h k : History} (o : ℕ) (up : Carries-at o h k) (down : Carries-at o k h) where
   pub terminal-carried : (T : TerminalM) → Terminal-side h o T → Terminal-side k o T
   terminal-carried T x = record {

@@ -10,7 +10,6 @@ use Rattle.common.specs.Bytes.{Bytes}
 use Rattle.wire.specs.Wire.{Request, request-message, reply-message}
 use Rattle.exactly_once.specs.History.{Event, History}
 use Rattle.exactly_once.specs.Words.{Call, Ordered, Ran, Ran-before}
-use Rattle.exactly_once.specs.Promise as Promise
 use Rattle.exactly_once.specs.Promise.{Timed, Outcome}
 use Rattle.exactly_once.specs.Steps.{Parts, Model}
 use Rattle.exactly_once.proofs.Times.{at-below}
@@ -22,7 +21,7 @@ use Rattle.exactly_once.proofs.Runlist.{runs-stay}
 use Rattle.exactly_once.proofs.Onelist.{runs-same}
 use Rattle.exactly_once.proofs.Invariant.{Inv}
 use Rattle.exactly_once.proofs.Present.{one-call}
-use Rattle.exactly_once.proofs.Past.{Run-list, Result-put, Is-served, Has-result, Past}
+use Rattle.exactly_once.proofs.Past.{leads, Run-list, Result-put, Is-served, Has-result, Past}
 
 -- a run has a time of the history
 pub ran-below : (h : History) (o : ℕ) (c : Call) (y : ℕ) → Ran h o c y → y < length h
@@ -120,8 +119,5 @@ module _ (P : Parts) (first : P .service .Content) (e : Event) (h : History) whe
         body = s .body;
         puts = s .puts;
         bare = s .bare;
-        given = λ rs some b. (let w = runs-then y (omega (arith, lt)) in let same : w .0 ≡ rs = runs-same (P .service .next) (P .service .reply) request-message reply-message (e ∷ h) y (w .0) rs (w .2) b in subst (λ qs. s .body ≡ P .service .reply (content-after qs) (c .body)) same (s .given (w .0) some (w .1)));
+        given = λ rs some b. (let w = runs-then y (omega (arith, lt)) in let same : w .0 ≡ rs = runs-same (P .service .next) (P .service .reply) request-message reply-message (e ∷ h) y (w .0) rs (w .2) b in subst (λ qs. s .body ≡ P .service .reply (leads P first qs) (c .body)) same (s .given (w .0) some (w .1)));
       }
-        where
-          content-after : List Timed → P .service .Content
-          content-after qs = Promise.after (P .service .next) (P .service .reply) request-message reply-message first qs

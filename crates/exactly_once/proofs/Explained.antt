@@ -12,7 +12,6 @@ use Rattle.wire.specs.Wire.{Request, request-message, reply-message}
 use Rattle.terminal.specs.Terminal.{Effect, answered, done, unknown}
 use Rattle.exactly_once.specs.History.{History}
 use Rattle.exactly_once.specs.Words.{Call, Ordered, Session, Closed, Over, Ran, Ran-before}
-use Rattle.exactly_once.specs.Promise as Promise
 use Rattle.exactly_once.specs.Promise.{Timed, Distinct, Explained}
 use Rattle.exactly_once.specs.Steps.{Parts, Model}
 use Rattle.exactly_once.proofs.Messages.{same-reply-body}
@@ -22,7 +21,7 @@ use Rattle.exactly_once.proofs.Runlist.{in-left, in-middle, in-first, in-secon
 use Rattle.exactly_once.proofs.Onelist.{in-split}
 use Rattle.exactly_once.proofs.Invariant.{Known, Inv}
 use Rattle.exactly_once.proofs.Invariant as invariant
-use Rattle.exactly_once.proofs.Past.{Run-list, Past}
+use Rattle.exactly_once.proofs.Past.{leads, Run-list, Past}
 use Rattle.exactly_once.proofs.Earlier.{ran-below}
 use Rattle.exactly_once.proofs.Results.{ran-after, known-in}
 
@@ -57,9 +56,6 @@ module _ (P : Parts) (first : P .service .Content) (h : History) (m : Model P) (
 
   abbrev n : ℕ
   n = length h
-
-  abbrev leads : List Timed → P .service .Content
-  leads rs = Promise.after (P .service .next) (P .service .reply) request-message reply-message first rs
 
   each-run : (q : Timed) → In q list → (y : ℕ) × Ran-at h q y
   each-run q i = (let w = inv .done .runs .each q i in (w .2 .2 .0, (w .0, (w .2 .0, w .2 .1, w .2 .2 .2))))
@@ -96,7 +92,7 @@ module _ (P : Parts) (first : P .service .Content) (h : History) (m : Model P) (
           inv .done .runs .ascend a b (z ++ (q ∷ later)) r s o u v w (e ∙ ap (λ x. x ++ (q ∷ later)) is ∙ longer) sr ss rr rs
 
   -- each answered one has the bytes that the service gave at its place
-  answers : (before later : List Timed) (q : Timed) → list ≡ before ++ (q ∷ later) → (x : ℕ) (b : Bytes) → Closed h (q .time) (q .call) x (answered b) → b ≡ P .service .reply (leads before) (q .call .body)
+  answers : (before later : List Timed) (q : Timed) → list ≡ before ++ (q ∷ later) → (x : ℕ) (b : Bytes) → Closed h (q .time) (q .call) x (answered b) → b ≡ P .service .reply (leads P first before) (q .call .body)
   answers before later q e x b cl =
       let w = inv .done .runs .each q (subst (In q) (sym e) (in-middle q before later)) in
       let k = inv .calls .known (q .time) (q .call) (w .0) in

@@ -1,12 +1,12 @@
 -- Two histories alike below a time: each word about earlier times is the same for both. Assumes nothing.
 use mathlib.Core.List.{_∷_}
-use mathlib.Core.Logic.{_⊎_, inl, inr, ⊎-elim}
+use mathlib.Core.Logic.{inl, inr}
 use Prim.Native.Nat.{ℕ, _<_, _≤_}
 use native.Mathlib.Omega.{arith}
 use lib.ListN.{length}
 use Rattle.terminal.specs.Terminal.{Effect}
 use Rattle.exactly_once.specs.History.{Told, run, aside, Event, History, At}
-use Rattle.exactly_once.specs.Words.{Call, Ordered, Opened, Closed-session, Stands, Session, Reply-closes, Open, Closed, Over, Heard, Heard-before, First-heard, Resumed, Ran, Ran-before}
+use Rattle.exactly_once.specs.Words.{Call, Ordered, Opened, Closed-session, Stands, Session, Reply-closes, Open, Closed, Heard, Heard-before, First-heard, Resumed, Ran, Ran-before}
 use Rattle.exactly_once.proofs.Times.{at-older}
 
 -- the same events before time n
@@ -20,10 +20,6 @@ flip a = record { there = a .back; back = a .there }
 -- a history and that with one event more
 pub grown : (x : Event) (h : History) → Alike (length h) h (x ∷ h)
 grown x h = record { there = λ t e lt a. inr a; back = λ t e lt a. at-older x h t e lt a }
-
--- fewer times
-pub alike-less : {n m : ℕ} {h k : History} → m ≤ n → Alike n h k → Alike m h k
-alike-less le a = record { there = λ t e lt. a .there t e (omega (arith, le, lt)); back = λ t e lt. a .back t e (omega (arith, le, lt)) }
 
 module _ {n : ℕ} {h k : History} where
   pub ordered : Alike n h k → (t : ℕ) (c : Call) → t < n → Ordered h t c → Ordered k t c
@@ -54,11 +50,6 @@ module _ {n : ℕ} {h k : History} (a : Alike n h k) where
 
   pub closed : (t : ℕ) (c : Call) (x : ℕ) (f : Effect) → x < n → Closed h t c x f → Closed k t c x f
   closed t c x f lt o = (still-open t c x (omega (arith, lt)) (o .0), reply-closes a c x f lt (o .1))
-
-  pub over : (t : ℕ) (c : Call) (x : ℕ) → x ≤ n → Over h t c x → Over k t c x
-  over t c x le o =
-      let lt : o .0 < n = omega (arith, le, o .2) in
-      (o .0, o .1, o .2, ⊎-elim (λ z. inl (z .0, reply-closes a c (o .0) (z .0) lt (z .1))) (λ z. inr (opened a (o .0) (c .terminal) lt z)) (o .3))
 
   pub heard : (o : ℕ) (c : Call) (x : ℕ) (w : Told) → x < n → Heard h o c x w → Heard k o c x w
   heard o c x w lt z = (z .0, z .1, a .there x (z .0) lt (z .2), z .3, z .4, stands (c .terminal) o x (omega (arith, lt)) (z .5))

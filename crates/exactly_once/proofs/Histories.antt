@@ -14,7 +14,8 @@ use Rattle.exactly_once.proofs.Present.{one-call}
 use Rattle.exactly_once.proofs.Quiet.{Good}
 use Rattle.exactly_once.proofs.Made.{made}
 use Rattle.exactly_once.proofs.Resend.{resend-keeps}
-use Rattle.exactly_once.proofs.Ended.{close-keeps, retarget-keeps}
+use Rattle.exactly_once.proofs.Close.{close-keeps}
+use Rattle.exactly_once.proofs.Retarget.{retarget-keeps}
 use Rattle.exactly_once.proofs.Ordering.{order-keeps, part-keeps}
 use Rattle.exactly_once.proofs.Hear.{hear-keeps}
 use Rattle.exactly_once.proofs.Resume.{resume-keeps}

@@ -1,11 +1,11 @@
 pub mod Begun
 pub mod Belonging
 pub mod Carry
+pub mod Close
 pub mod Closed
 pub mod Closing
 pub mod Copies
 pub mod Earlier
-pub mod Ended
 pub mod Explained
 pub mod Firstrun
 pub mod Growth
@@ -27,9 +27,11 @@ pub mod Outcomes
 pub mod Past
 pub mod Present
 pub mod Quiet
+pub mod Replaced
 pub mod Resend
 pub mod Results
 pub mod Resume
+pub mod Retarget
 pub mod Runlist
 pub mod Running
 pub mod Runs
@@ -41,6 +43,7 @@ pub mod Take
 pub mod Taken
 pub mod Taking
 pub mod Times
+pub mod Unchanged
 pub mod Unique
 pub mod Vacant
 pub mod Workorder

@@ -12,21 +12,19 @@ use Rattle.std.proofs.shelf.Tests.{cases-eq, eq-eqb, ne-eqb}
 use Rattle.std.specs.declared.option.Option.the-variants.{Some, None}
 use Rattle.std.specs.declared.result.Result.the-variants.{Ok}
 use Rattle.common.specs.Search.{lowest-at}
-use Rattle.wire.specs.Wire.{SessionId, Request, request-message, reply-message}
+use Rattle.wire.specs.Wire.{SessionId, Request}
 use Rattle.server.specs.Server.{SessionM, new-id, new-session, is-vacant, opened-in}
 use Rattle.terminal.specs.Terminal.{TerminalM, Effect, new-terminal}
-use Rattle.exactly_once.specs.History.{Told, run, aside, Asked, asked-open, opened, Event, History}
-use Rattle.exactly_once.specs.Words.{Call, Opened, Session, Stands, Ran-before}
+use Rattle.exactly_once.specs.History.{Asked, asked-open, opened, Event, History}
+use Rattle.exactly_once.specs.Words.{Call, Opened, Session, Stands}
 use Rattle.exactly_once.specs.Steps.{Parts, Model, with-server, with-terminal, free-place, open-by, open-step, act, event-of}
-use Rattle.exactly_once.proofs.Times.{at-below, newest-or-older}
+use Rattle.exactly_once.proofs.Times.{at-below}
 use Rattle.exactly_once.proofs.Tables.{some-same}
 use Rattle.exactly_once.proofs.Unique.{Orders, opened-one}
-use Rattle.exactly_once.proofs.Newest.{Opens, Ends-session, Replies, Hears, Resumes, Runs, ordered-new, opened-new, stands-new, stands-now, stands-still, session-new, session-now, session-still, open-new, open-still, heard-new, heard-still, ran-new, ran-still}
-use Rattle.exactly_once.proofs.Growth as growth
-use Rattle.exactly_once.proofs.Growth.{grown, flip}
-use Rattle.exactly_once.proofs.Runlist.{runs-on}
-use Rattle.exactly_once.proofs.Invariant.{Known, Aside, Calls, Terminal-side, Server-side, Both-sides, Places, Waiting, Done, Inv}
-use Rattle.exactly_once.proofs.Carry.{Carries-at, known-up, known-new, put-new, put-still, aside-still, terminal-carried, server-carried, both-carried, answers-carried}
+use Rattle.exactly_once.proofs.Newest.{Opens, Ends-session, Replies, opened-new, stands-new, stands-now, stands-still, session-new, session-now, session-still, open-still, heard-still, ran-still}
+use Rattle.exactly_once.proofs.Invariant.{Known, Calls, Terminal-side, Server-side, Both-sides, Places, Waiting, Done, Inv}
+use Rattle.exactly_once.proofs.Carry.{Carries-at, known-up, put-still, aside-still, terminal-carried, server-carried, both-carried}
+use Rattle.exactly_once.proofs.Unchanged.{Idle, was-open, was-known, calls-on, was-heard, had-run, was-put, was-aside, waiting-on, done-idle}
 use Rattle.exactly_once.proofs.Quiet.{took-none, Good, good-refused}
 use Rattle.exactly_once.proofs.Vacant.{open-cases, vacant-fallen, vacant-tells, free-is}
 use Rattle.exactly_once.proofs.Newborn.{terminal-born, server-born, both-born}
@@ -70,14 +68,8 @@ module _ (P : Parts) (first : P .service .Content) (h : History) (m : Model P) (
   no-reply : (c : Call) (g : Effect) → Replies e c g → ⊥
   no-reply c g z = let x = z .2 in let w : _≡_ {A = ℕ} 0 1 = cc in omega arith
 
-  no-resume : (q s : ℕ) → Resumes e q s → ⊥
-  no-resume q s z = let x = z .2 in let w : _≡_ {A = ℕ} 0 1 = cc in omega arith
-
-  no-hear : (c : Call) (w : Told) → Hears e c w → ⊥
-  no-hear c w z = took-none (c .request) (z .2)
-
-  no-run : (u : ℕ) (c : Call) → Runs h e u c → ⊥
-  no-run u c r = ⊎-elim (λ x. no-hear c run (x .0)) (λ x. no-resume (c .terminal) (c .slot) (x .2)) (r .1)
+  idle : Idle e
+  idle = record { no-hear = λ c w z. took-none (c .request) (z .2); no-resume = λ q s z. (let x = z .2 in let w : _≡_ {A = ℕ} 0 1 = cc in omega arith) }
 
   -- the ids, with that of the new session
   ids : ℕ → SessionId
@@ -91,21 +83,9 @@ module _ (P : Parts) (first : P .service .Content) (h : History) (m : Model P) (
   unfolding ids
   ids-old u q z = ap (λ b. cond b id (inv .ids u)) (ne-eqb u n (λ is. omega (arith, is, at-below h u (z .0) (z .2))))
 
-  -- what was so before
-  old-known : (t u : ℕ) (c : Call) (f : Request) → Known (e ∷ h) t u c f → Known h t u c f
-  old-known t u c f z = ⊎-elim (λ q. absurd (no-order c (q .1))) (λ x. x) (known-new e h t u c f z)
-
-  old-ran : (u : ℕ) (c : Call) → Ran-before (e ∷ h) u c (suc n) → Ran-before h u c n
-  old-ran u c x = ⊎-elim (λ q. q) (λ q. absurd (no-run u c q)) (ran-new e h u c x)
-
-  old-aside : (u : ℕ) (c : Call) → Aside (e ∷ h) u c → Aside h u c
-  old-aside u c z =
-      let lt : z .0 < n = ⊎-elim (λ q. absurd (no-hear c aside (subst (λ x. Hears x c aside) (q .1) (z .1 .0 .1, z .1 .0 .3, z .1 .0 .4)))) (λ q. q .0) (newest-or-older e h (z .0) (z .1 .0 .0) (z .1 .0 .2)) in
-      (z .0, growth.first-heard (flip (grown e h)) u c (z .0) aside lt (z .1), λ y x b r. z .2 y x (omega (arith, b)) (growth.resumed (grown e h) (c .terminal) (c .slot) y b r))
-
   -- the session that stands after stood before, or is the new one
-  stood : (q u : ℕ) → Opened h u q → Stands (e ∷ h) q u (suc n) → Stands h q u n
-  stood q u op z = ⊎-elim (λ x. absurd (omega (arith, x .0, at-below h u (op .0) (op .2)))) (λ x. x .0) (stands-new e h q u z)
+  stood-old : (q u : ℕ) → Opened h u q → Stands (e ∷ h) q u (suc n) → Stands h q u n
+  stood-old q u op z = ⊎-elim (λ x. absurd (omega (arith, x .0, at-below h u (op .0) (op .2)))) (λ x. x .0) (stands-new e h q u z)
 
   -- the calls of a session at another place
   module _ (q u : ℕ) (op : Opened h u q) (ne : q ≢ p) where
@@ -119,17 +99,17 @@ module _ (P : Parts) (first : P .service .Content) (h : History) (m : Model P) (
       heard = λ t c f z. heard-still e h u c;
       ran = λ t c f z. ran-still e h u c;
       put = λ t c f b z. put-still e h u c b;
-      set-aside = λ t c f z x. aside-still e h u c x (no-resume (c .terminal) (c .slot));
+      set-aside = λ t c f z x. aside-still e h u c x (idle .no-resume (c .terminal) (c .slot));
     }
 
     down : Carries-at u (e ∷ h) h
     down = record {
-      known = λ t c f. old-known t u c f;
-      open-calls = λ t c f z x. ⊎-elim (λ is. absurd (let w = old-known t u c f z in omega (arith, is, at-below h t (w .ordered .0) (w .ordered .1)))) (λ w. w .0) (open-new e h t c x);
-      heard = λ t c f z x. ⊎-elim (λ w. w) (λ w. absurd (no-hear c (w .0) (w .1))) (heard-new e h u c x);
-      ran = λ t c f z. old-ran u c;
-      put = λ t c f b z x. ⊎-elim (λ w. w) (λ w. absurd (no-run u c (w .0))) (put-new e h u c b x);
-      set-aside = λ t c f z. old-aside u c;
+      known = λ t c f. was-known e h no-order t u c f;
+      open-calls = λ t c f z x. was-open e h t u c f (was-known e h no-order t u c f z) x .0;
+      heard = λ t c f z. was-heard e h idle u c;
+      ran = λ t c f z. had-run e h idle u c;
+      put = λ t c f b z. was-put e h idle u c b;
+      set-aside = λ t c f z. was-aside e h idle u c;
     }
 
   -- no call of the new session was ordered
@@ -170,14 +150,7 @@ module _ (P : Parts) (first : P .service .Content) (h : History) (m : Model P) (
   standing-cases q u z = ⊎-elim (λ x. inl (x .0, opens-here q (x .1))) (λ x. inr (x .0, stood-away q u (x .0))) (stands-new e h q u z)
 
   calls : Calls (e ∷ h) ids
-  calls = record {
-    known = λ t c z. ⊎-elim (λ q. absurd (no-order c (q .1))) (λ q. (let w = inv .calls .known t c (q .1) in (w .0, w .1, known-up e h t (w .0) c (w .1) (w .2)))) (ordered-new e h t c z);
-    named = λ t u c f z. (let w = old-known t u c f z in inv .calls .named t u c f w ∙ sym (ids-old u (c .terminal) (w .session .0)));
-    numbered = λ t u c f z. inv .calls .numbered t u c f (old-known t u c f z);
-    placed = λ t u c f z. inv .calls .placed t u c f (old-known t u c f z);
-    formed = λ t u c f z. inv .calls .formed t u c f (old-known t u c f z);
-    once = λ t v u c d f g z w. inv .calls .once t v u c d f g (old-known t u c f z) (old-known v u d g w);
-  }
+  calls = calls-on e h no-order (inv .ids) ids ids-old (inv .calls)
 
   terminals : (q u : ℕ) (R : TerminalM) → Session (e ∷ h) q u (suc n) → getD (set (m .terminals) p (Some T)) q None ≡ Some R → Terminal-side (e ∷ h) u R
   terminals q u R se to =
@@ -235,18 +208,10 @@ module _ (P : Parts) (first : P .service .Content) (h : History) (m : Model P) (
       session-known q R to = ⊎-elim (λ is. (n, subst (λ y. Stands (e ∷ h) y n (suc n)) (sym is) (stands-now e h p opens), ap (λ x. x .id) (sym (session-is q R is to)) ∙ sym (ids-new n refl))) (λ ne. (let w = inv .places .session-known q R (sym (session-away q ne) ∙ to) in (w .0, stands-still e h q (w .0) (w .1) (no-end q), w .2 ∙ sym (ids-old (w .0) q (w .1 .0))))) (cases-eq q p)
 
   waiting : Waiting P (e ∷ h) after
-  waiting = record {
-    requests = λ b j. (let z = inv .waiting .requests b j in (z .0, z .1, z .2, z .3, known-up e h (z .0) (z .1) (z .2) (z .3) (z .4), z .5));
-    heard = λ x f w room b z y t. ⊎-elim (λ q. absurd (took-none b (sym (ap (λ v. v .took) (q .1)) ∙ t))) (λ q. (let k = inv .waiting .heard x f w room b (q .1) y t in (k .0, k .1, k .2, k .3, known-up e h (k .0) (k .1) (k .2) (k .3) (k .4), k .5, k .6))) (newest-or-older e h x f z);
-    replies = λ b j. (let z = inv .waiting .replies b j in (z .0, z .1, z .2, z .3, z .4, known-up e h (z .0) (z .1) (z .2) (z .3) (z .5), z .6, answers-carried (z .1) (z .2) (z .3) (z .4) (stood (z .2 .terminal) (z .1) (z .5 .session .0)) (put-still e h (z .1) (z .2)) (ran-still e h (z .1) (z .2)) (z .7)));
-  }
+  waiting = waiting-on e h P m after (inv .waiting) (λ t u c f z. stood-old (c .terminal) u (z .session .0)) (λ b j. inl j) (λ w room b x y. absurd (took-none b y)) (λ b j. inl j)
 
   done : Done P first (e ∷ h) after
-  done = record {
-    list = inv .done .list;
-    runs = runs-on (P .service .next) (P .service .reply) request-message reply-message e h (λ c u z r. no-order c z) (inv .done .list) (λ t u c or se body r. no-run u c r) (λ u c z r. no-order c z) (inv .done .runs);
-    reach = inv .done .reach;
-  }
+  done = done-idle e h P idle (λ c u z r. no-order c z) first m after refl (inv .done)
 
   -- a session is opened at the vacant place p
   pub opened-inv : Inv P first (record { asked = asked-open target; answer = opened p; put = None; took = None } ∷ h) (with-terminal P (with-server P m (opened-in (m .server) target p .after)) p (new-terminal (new-id (m .server)) target))

@@ -8,7 +8,7 @@ use Rattle.wire.specs.Wire.{Request, request-message, reply-message}
 use Rattle.terminal.specs.Terminal.{answered, done}
 use Rattle.exactly_once.specs.History.{ordered, Event, History, At}
 use Rattle.exactly_once.specs.Words.{Call, Ordered, Stands, Session, Open, Closed, Ran, Ran-before}
-use Rattle.exactly_once.specs.Promise.{Timed, Runs-before, Fields, result, Put-by-run, Served, Result}
+use Rattle.exactly_once.specs.Promise.{Timed, after, Runs-before, Fields, result, Put-by-run, Served, Result}
 use Rattle.exactly_once.specs.Steps.{Parts}
 use Rattle.exactly_once.proofs.Invariant.{Known}
 
@@ -31,6 +31,10 @@ module _ (P : Parts) (first : P .service .Content) where
 
   abbrev pub outcome : Request → ℕ → ℕ → Bytes → Bytes
   outcome f high goal b = result (P .service .next) (P .service .reply) request-message reply-message f high goal b
+
+  -- the content that the runs of a list lead to
+  abbrev pub leads : List Timed → P .service .Content
+  leads rs = after (P .service .next) (P .service .reply) request-message reply-message first rs
 
   pub record Past (h : History) : Type 0 where
     pub runs : (x : ℕ) → (rs : List Timed) × Run-list h x rs

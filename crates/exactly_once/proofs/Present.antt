@@ -4,15 +4,15 @@ use mathlib.Core.Logic.{_⊎_, inl, inr, ⊎-elim, _↔_}
 use mathlib.Core.Bool.{true, not}
 use Prim.Native.Nat.{ℕ, _+_, _<_, _≤_}
 use native.Mathlib.Omega.{arith}
-use lib.ListN.{length, getD}
+use lib.ListN.{length, getD, set}
 use borrow.Author.Tests.{clash}
 use Rattle.std.proofs.shelf.Tests.{cases-lt}
 use Rattle.std.specs.Options.{isSome}
 use Rattle.std.specs.declared.option.Option.{Option}
 use Rattle.std.specs.declared.option.Option.the-variants.{Some, None}
-use Rattle.wire.specs.Wire.{Request}
+use Rattle.wire.specs.Wire.{SessionId, Request}
 use Rattle.common.specs.Search.{when-found}
-use Rattle.server.specs.Server.{SlotM, SessionM, session-of, slot-at, new-slot}
+use Rattle.server.specs.Server.{SlotM, SessionM, session-of, slot-at, new-slot, ServerM, with-session}
 use Rattle.terminal.specs.Terminal.{TerminalM, EndM, OpenCall, end-at, is-busy, new-end}
 use Rattle.exactly_once.specs.History.{History}
 use Rattle.exactly_once.specs.Words.{Call, Ordered, Opened, Stands, Session, Open, Heard-before}
@@ -20,7 +20,7 @@ use Rattle.exactly_once.specs.Steps.{Parts, Model, terminal-at}
 use Rattle.exactly_once.specs.Lived.{ends, end-of, slot-of}
 use Rattle.exactly_once.proofs.Messages.{same-request}
 use Rattle.exactly_once.proofs.Unique.{ordered-one, session-one, opened-one, open-newest}
-use Rattle.exactly_once.proofs.Tables.{some-none, session-found, session-none, session-tells}
+use Rattle.exactly_once.proofs.Tables.{some-none, session-found, session-set, session-none, session-tells}
 use Rattle.exactly_once.proofs.Invariant.{Known, Close, Terminal-side, Server-side, Both-sides, Inv}
 
 -- nothing is open there
@@ -82,6 +82,13 @@ module _ (P : Parts) (first : P .service .Content) (h : History) (m : Model P) (
           let k = inv .places .session-known q r at in
           let same : k .0 ≡ o = inv .places .apart (k .0) o q p (k .1 .0) (st .0) (sym (k .2) ∙ e ∙ s .2) in
           opened-one h o q p (subst (λ x. Opened h x q) same (k .1 .0)) (st .0)
+
+  -- the server with another session, or none, in its place
+  abbrev pub placed : ℕ → Option SessionM → ServerM
+  placed p x = record { boot = m .server .boot; count = m .server .count; sessions = set (m .server .sessions) p x }
+
+  pub placed-is : (p o : ℕ) → Stands h p o (length h) → (id : SessionId) (x : Option SessionM) → inv .ids o ≡ id → with-session (m .server) id x ≡ placed p x
+  placed-is p o st id x e = let w = standing p o st in session-set (m .server) p (w .S) (w .session) (w .alone) id x (w .S-id ∙ e)
 
   -- a record whose session does not stand: the server has none of its id
   pub not-there : (p o : ℕ) (T : TerminalM) → Session h p o (length h) → T .id ≡ inv .ids o → (Stands h p o (length h) → ⊥) → session-of (m .server) (T .id) ≡ None

@@ -1,11 +1,12 @@
 -- The invariant behind a quiet event that alters only the channels: refusals, resend, copies heard again, replies without effect.
-use mathlib.Core.Path.{_≡_, ap, sym, _∙_, subst}
+use mathlib.Core.Path.{_≡_, refl, ap, sym, _∙_, subst}
 use mathlib.Core.List.{_∷_}
-use mathlib.Core.Logic.{_⊎_, inl, ⊎-elim}
+use mathlib.Core.Logic.{_⊎_, inl, inr, ⊎-elim}
 use mathlib.Core.Bool.{Bool, true, false, cond}
 use Prim.Native.Nat.{ℕ, suc, _<_}
 use native.Mathlib.Omega.{arith}
 use lib.ListN.{length, getD}
+use borrow.Author.Tests.{clash}
 use Rattle.std.proofs.shelf.Tests.{cond-both}
 use Rattle.std.specs.declared.option.Option.{Option}
 use Rattle.std.specs.declared.option.Option.the-variants.{Some, None}
@@ -14,16 +15,16 @@ use Rattle.common.specs.Search.{In, when-found}
 use Rattle.wire.specs.Wire.{Request, Reply, Refusal, row-of, request-message, reply-message}
 use Rattle.server.specs.Server.{ServerM, SessionM}
 use Rattle.terminal.specs.Terminal.{TerminalM}
-use Rattle.exactly_once.specs.History.{Told, Asked, asked-resend, asked-hear, asked-retarget, Answer, refused, Event, History}
+use Rattle.exactly_once.specs.History.{Told, Asked, asked-open, asked-order, asked-part, asked-resend, asked-hear, asked-resume, asked-take, asked-retarget, asked-close, Answer, refused, Event, History}
 use Rattle.exactly_once.specs.Words.{Call, Ordered, Stands, Session}
 use Rattle.exactly_once.specs.Steps.{Parts, Model, Step, terminal-at, refuse}
-use Rattle.exactly_once.proofs.Times.{at-below, newest-or-older}
 use Rattle.exactly_once.proofs.Tables.{found-both}
 use Rattle.exactly_once.proofs.Unique.{session-one}
 use Rattle.exactly_once.proofs.Newest.{Ends-session, Runs, stands-still, ran-still}
 use Rattle.exactly_once.proofs.Runlist.{runs-on}
 use Rattle.exactly_once.proofs.Invariant.{Known, Answers, Calls, Terminal-side, Server-side, Both-sides, Places, Waiting, Done, Inv}
-use Rattle.exactly_once.proofs.Carry.{Carries, carries-at, put-still, Quiet, quiet-up, quiet-down, quiet-runs, calls-carried, terminal-carried, server-carried, both-carried, answers-carried, stood}
+use Rattle.exactly_once.proofs.Unchanged.{calls-on, waiting-on}
+use Rattle.exactly_once.proofs.Carry.{Carries, carries-at, put-still, Quiet, quiet-up, quiet-down, quiet-runs, terminal-carried, server-carried, both-carried, answers-carried, stood}
 
 module _ (P : Parts) (first : P .service .Content) where
   -- the house with other channels
@@ -38,7 +39,7 @@ module _ (P : Parts) (first : P .service .Content) where
     down = quiet-down e h quiet
 
     pub quiet-calls : Calls (e ∷ h) (inv .ids)
-    quiet-calls = calls-carried up down (inv .ids) (inv .calls)
+    quiet-calls = calls-on e h (quiet .no-order) (inv .ids) (inv .ids) (λ u q z. refl) (inv .calls)
 
     -- the runs
     pub quiet-done : (q : P .requests .State) (r : P .replies .State) (s : ServerM) → Done P first (e ∷ h) (record { server = s; terminals = m .terminals; content = m .content; requests = q; replies = r })
@@ -83,17 +84,7 @@ module _ (P : Parts) (first : P .service .Content) where
 
     -- each waiting message waited before, or is fit to wait
     pub quiet-waiting : ((w : Told) (room : ℕ) (b : Bytes) → e .asked ≡ asked-hear w room → e .took ≡ Some b → (t : ℕ) × (o : ℕ) × (c : Call) × (f : Request) × Known h t o c f × (b ≡ c .request)) → (q : P .requests .State) (r : P .replies .State) (s : ServerM) → ((b : Bytes) → In b (P .requests .waits q) → In b (P .requests .waits (m .requests)) ⊎ ((t : ℕ) × (o : ℕ) × (c : Call) × (f : Request) × Known h t o c f × (b ≡ c .request))) → ((b : Bytes) → In b (P .replies .waits r) → In b (P .replies .waits (m .replies)) ⊎ ((t : ℕ) × (o : ℕ) × (c : Call) × (f : Request) × (r : Reply) × Known h t o c f × (b ≡ reply-message r) × Answers h o c f r)) → Waiting P (e ∷ h) (record { server = s; terminals = m .terminals; content = m .content; requests = q; replies = r })
-    quiet-waiting takes q r s qs rs = record {
-      requests = λ b i. asks b (⊎-elim (inv .waiting .requests b) (λ z. z) (qs b i));
-      heard = λ x f w room b a p q. ⊎-elim (λ z. (let k = takes w room b (sym (ap (λ y. y .asked) (z .1)) ∙ p) (sym (ap (λ y. y .took) (z .1)) ∙ q) in (k .0, k .1, k .2, k .3, up .known (k .0) (k .1) (k .2) (k .3) (k .4), k .5, omega (arith, z .0, at-below h (k .0) (k .4 .ordered .0) (k .4 .ordered .1))))) (λ z. (let k = inv .waiting .heard x f w room b (z .1) p q in (k .0, k .1, k .2, k .3, up .known (k .0) (k .1) (k .2) (k .3) (k .4), k .5, k .6))) (newest-or-older e h x f a);
-      replies = λ b i. tells b (⊎-elim (inv .waiting .replies b) (λ z. z) (rs b i));
-    }
-      where
-        asks : (b : Bytes) → ((t : ℕ) × (o : ℕ) × (c : Call) × (f : Request) × Known h t o c f × (b ≡ c .request)) → (t : ℕ) × (o : ℕ) × (c : Call) × (f : Request) × Known (e ∷ h) t o c f × (b ≡ c .request)
-        asks b z = (z .0, z .1, z .2, z .3, up .known (z .0) (z .1) (z .2) (z .3) (z .4), z .5)
-
-        tells : (b : Bytes) → ((t : ℕ) × (o : ℕ) × (c : Call) × (f : Request) × (r : Reply) × Known h t o c f × (b ≡ reply-message r) × Answers h o c f r) → (t : ℕ) × (o : ℕ) × (c : Call) × (f : Request) × (r : Reply) × Known (e ∷ h) t o c f × (b ≡ reply-message r) × Answers (e ∷ h) o c f r
-        tells b z = (z .0, z .1, z .2, z .3, z .4, up .known (z .0) (z .1) (z .2) (z .3) (z .5), z .6, answers-carried (z .1) (z .2) (z .3) (z .4) (λ st. stood e h quiet (z .2 .terminal) (z .1) st .0) (λ b. put-still e h (z .1) (z .2) b) (ran-still e h (z .1) (z .2)) (z .7))
+    quiet-waiting takes q r s qs rs = waiting-on e h P m _ (inv .waiting) (λ t o c f z st. stood e h quiet (c .terminal) o st .0) (λ b i. ⊎-elim inl (λ z. inr (z .0, z .1, z .2, z .3, up .known (z .0) (z .1) (z .2) (z .3) (z .4), z .5)) (qs b i)) takes (λ b i. ⊎-elim inl (λ z. inr (z .0, z .1, z .2, z .3, z .4, up .known (z .0) (z .1) (z .2) (z .3) (z .5), z .6, answers-carried (z .1) (z .2) (z .3) (z .4) (λ st. stood e h quiet (z .2 .terminal) (z .1) st .0) (put-still e h (z .1) (z .2)) (ran-still e h (z .1) (z .2)) (z .7))) (rs b i))
 
     -- the whole invariant, where only the channels change
     pub quiet-inv : ((p : ℕ) → Ends-session e p → ⊥) → ((w : Told) (room : ℕ) (b : Bytes) → e .asked ≡ asked-hear w room → e .took ≡ Some b → (t : ℕ) × (o : ℕ) × (c : Call) × (f : Request) × Known h t o c f × (b ≡ c .request)) → (q : P .requests .State) (r : P .replies .State) → ((b : Bytes) → In b (P .requests .waits q) → In b (P .requests .waits (m .requests)) ⊎ ((t : ℕ) × (o : ℕ) × (c : Call) × (f : Request) × Known h t o c f × (b ≡ c .request))) → ((b : Bytes) → In b (P .replies .waits r) → In b (P .replies .waits (m .replies)) ⊎ ((t : ℕ) × (o : ℕ) × (c : Call) × (f : Request) × (r : Reply) × Known h t o c f × (b ≡ reply-message r) × Answers h o c f r)) → Inv P first (e ∷ h) (with-channels m q r)
@@ -126,25 +117,30 @@ refused-quiet h a i j p = record {
   heard-again = λ t o c f w k z st. absurd (let x = z .2 in let w : _≡_ {A = ℕ} 0 1 = cc in omega arith);
 }
 
--- so is a resend
-pub resend-quiet : (h : History) (p s room : ℕ) (a : Answer) (b : Option Bytes) → Quiet h (record { asked = asked-resend p s room; answer = a; put = b; took = None })
-resend-quiet h p s room a b = record {
-  no-order = λ c z. ⊎-elim (λ y. (let x = y .1 in let w : _≡_ {A = ℕ} 0 1 = cc in omega arith)) (λ y. (let x = y .1 in let w : _≡_ {A = ℕ} 0 1 = cc in omega arith)) (z .2);
-  no-open = λ q z. (let x = z .1 in let w : _≡_ {A = ℕ} 0 1 = cc in omega arith);
-  no-reply = λ c g z. (let x = z .1 in let w : _≡_ {A = ℕ} 0 1 = cc in omega arith);
-  no-resume = λ q s z. (let x = z .1 in let w : _≡_ {A = ℕ} 0 1 = cc in omega arith);
-  heard-again = λ t o c f w k z st. absurd (let x = z .1 in let w : _≡_ {A = ℕ} 0 1 = cc in omega arith);
-}
+-- a resend, a retarget and a close order, open, hear, resume and take nothing
+abbrev pub silent : Asked → Bool
+silent (asked-open n) = false
+silent (asked-order p k b room) = false
+silent (asked-part p s room) = false
+silent (asked-resend p s room) = true
+silent (asked-hear w room) = false
+silent (asked-resume p s room) = false
+silent (asked-take room) = false
+silent (asked-retarget p n) = true
+silent (asked-close p) = true
 
--- and a retarget
-pub retarget-quiet : (h : History) (p s : ℕ) (a : Answer) (b : Option Bytes) → Quiet h (record { asked = asked-retarget p s; answer = a; put = b; took = None })
-retarget-quiet h p s a b = record {
-  no-order = λ c z. ⊎-elim (λ y. (let x = y .1 in let w : _≡_ {A = ℕ} 0 1 = cc in omega arith)) (λ y. (let x = y .1 in let w : _≡_ {A = ℕ} 0 1 = cc in omega arith)) (z .2);
-  no-open = λ q z. (let x = z .1 in let w : _≡_ {A = ℕ} 0 1 = cc in omega arith);
-  no-reply = λ c g z. (let x = z .1 in let w : _≡_ {A = ℕ} 0 1 = cc in omega arith);
-  no-resume = λ q s z. (let x = z .1 in let w : _≡_ {A = ℕ} 0 1 = cc in omega arith);
-  heard-again = λ t o c f w k z st. absurd (let x = z .1 in let w : _≡_ {A = ℕ} 0 1 = cc in omega arith);
+-- so they are quiet
+pub silent-quiet : (h : History) (a : Asked) (r : Answer) (b : Option Bytes) → silent a ≡ true → Quiet h (record { asked = a; answer = r; put = b; took = None })
+silent-quiet h a r b s = record {
+  no-order = λ c z. ⊎-elim (λ y. other _ refl (y .1)) (λ y. other _ refl (y .1)) (z .2);
+  no-open = λ q z. other _ refl (z .1);
+  no-reply = λ c g z. other _ refl (z .1);
+  no-resume = λ q i z. other _ refl (z .1);
+  heard-again = λ t o c f w k z st. absurd (other _ refl (z .1));
 }
+  where
+    other : (x : Asked) → silent x ≡ false → a ≡ x → ⊥
+    other x f e = clash (sym f ∙ ap silent (sym e) ∙ s)
 
 module _ (P : Parts) (first : P .service .Content) (h : History) where
   -- a call met with the outcome s keeps the invariant

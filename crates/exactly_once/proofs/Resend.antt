@@ -21,7 +21,7 @@ use Rattle.exactly_once.specs.Steps.{Parts, Model, Step, terminal-at, refuse, 
 use Rattle.exactly_once.specs.Lived.{PartsLaws}
 use Rattle.exactly_once.proofs.Tables.{some-same, set-same}
 use Rattle.exactly_once.proofs.Invariant.{Known, Terminal-side, Inv}
-use Rattle.exactly_once.proofs.Quiet.{quiet-inv, resend-quiet, took-none, Good, good-cond, good-found, good-refused}
+use Rattle.exactly_once.proofs.Quiet.{quiet-inv, silent-quiet, took-none, Good, good-cond, good-found, good-refused}
 use Rattle.exactly_once.proofs.Unique.{open-newest}
 use Rattle.exactly_once.proofs.Present.{same-call}
 
@@ -70,7 +70,7 @@ module _ (P : Parts) (first : P .service .Content) (h : History) (m : Model P) (
         waits b i = ⊎-elim (λ q. inr (w .time, here .0, w .call, w .fields, w .known, q .0 ∙ sym (w .request))) inl (laws .requests .put-keeps (m .requests) msg b i)
 
         quiet : Inv P first (ev ∷ h) (record { server = m .server; terminals = m .terminals; content = m .content; requests = P .requests .puts (m .requests) msg; replies = m .replies })
-        quiet = quiet-inv P first ev h m (resend-quiet h p s room ok (Some msg)) inv (λ q z. (let x = z .0 in let w : _≡_ {A = ℕ} 0 1 = cc in omega arith)) (λ w room b x y. absurd (took-none b y)) (P .requests .puts (m .requests) msg) (m .replies) waits (λ b i. inl i)
+        quiet = quiet-inv P first ev h m (silent-quiet h (asked-resend p s room) ok (Some msg) refl) inv (λ q z. (let x = z .0 in let w : _≡_ {A = ℕ} 0 1 = cc in omega arith)) (λ w room b x y. absurd (took-none b y)) (P .requests .puts (m .requests) msg) (m .replies) waits (λ b i. inl i)
 
     by-terminal : (T : TerminalM) → terminal-at P m p ≡ Some T → Good P first h (asked-resend p s room) (send-by P m p (λ i. ok) (resend-sends T s))
     unfolding resend-sends

@@ -12,7 +12,6 @@ use Rattle.wire.specs.Wire.{Request, request-message, reply-message}
 use Rattle.server.specs.Server.{is-bare, run-bytes}
 use Rattle.exactly_once.specs.History.{run, aside, Asked, Event, History}
 use Rattle.exactly_once.specs.Words.{Call, Ordered, Session, Ran}
-use Rattle.exactly_once.specs.Promise as Promise
 use Rattle.exactly_once.specs.Promise.{Timed}
 use Rattle.exactly_once.specs.Steps.{Parts, Model, act, event-of}
 use Rattle.exactly_once.specs.Lived.{PartsLaws}
@@ -24,7 +23,7 @@ use Rattle.exactly_once.proofs.Onelist.{runs-same}
 use Rattle.exactly_once.proofs.Invariant.{Known, Inv}
 use Rattle.exactly_once.proofs.Carry.{known-old}
 use Rattle.exactly_once.proofs.Histories.{heard-after}
-use Rattle.exactly_once.proofs.Past.{Run-list, Has-fields, Has-result}
+use Rattle.exactly_once.proofs.Past.{leads, Run-list, Has-fields, Has-result}
 use Rattle.exactly_once.proofs.Earlier.{unrun}
 use Rattle.exactly_once.proofs.Runs.{Run-now, run-now}
 
@@ -49,15 +48,12 @@ module _ (P : Parts) (laws : PartsLaws P) (first : P .service .Content) (h : His
       let k = known-old e h t o c f (ran-after P first (e ∷ h) (act P m a .after) after t o c f (length h) z r) z in
       (k, run-now P laws first h m inv a t o c f k (runs-new e h o c r))
 
-  abbrev leads : List Timed → P .service .Content
-  leads rs = Promise.after (P .service .next) (P .service .reply) request-message reply-message first rs
-
   -- the runs before now led to the content that the run met
-  content-then : (rs : List Timed) → Run-list P first (e ∷ h) (length h) rs → leads rs ≡ m .content
+  content-then : (rs : List Timed) → Run-list P first (e ∷ h) (length h) rs → leads P first rs ≡ m .content
   content-then rs b =
       let stay = runs-stay (P .service .next) (P .service .reply) request-message reply-message e h (unrun P first e h (act P m a .after) after) (length h) (inv .done .list) (omega arith) (inv .done .runs) in
       let same : rs ≡ inv .done .list = runs-same (P .service .next) (P .service .reply) request-message reply-message (e ∷ h) (length h) rs (inv .done .list) b stay in
-      ap leads same ∙ inv .done .reach
+      ap (leads P first) same ∙ inv .done .reach
 
   module _ (t : ℕ) (c : Call) (f g : Request) (same : request-message g ≡ request-message f) (w : Run-now P h m t c g (act P m a .put)) where
     abbrev bytes : Bytes

@@ -22,11 +22,11 @@ use Rattle.exactly_once.specs.Words.{Call, Session, Stands, First-heard, Ran, 
 use Rattle.exactly_once.specs.Steps.{Parts, Model, terminal-at, resume-by, resume-step, is-short, act}
 use Rattle.exactly_once.specs.Lived.{PartsLaws}
 use Rattle.exactly_once.proofs.Times.{at-below}
-use Rattle.exactly_once.proofs.Tables.{some-same, session-set}
+use Rattle.exactly_once.proofs.Tables.{some-same}
 use Rattle.exactly_once.proofs.Unique.{session-one, opened-one, first-heard-one, heard-one}
 use Rattle.exactly_once.proofs.Newest.{Hears, Resumes, Runs, heard-still}
 use Rattle.exactly_once.proofs.Invariant.{Known, Aside, result, Holds, By-last, pend, Inv}
-use Rattle.exactly_once.proofs.Present.{call-cases, Standing, standing, is-there, same-call}
+use Rattle.exactly_once.proofs.Present.{placed-is, call-cases, Standing, standing, is-there, same-call}
 use Rattle.exactly_once.proofs.Quiet.{took-none, Good, good-cond, good-found, good-refused}
 use Rattle.exactly_once.proofs.Resend.{held}
 use Rattle.exactly_once.proofs.Running.{Running, running-inv}
@@ -153,7 +153,7 @@ module _ (P : Parts) (laws : PartsLaws P) (first : P .service .Content) (h : His
 
       resumed-good : Good P first h (asked-resume (c .terminal) (f .slot) room) (resume-by P m (Ok (run-slot (P .service) (m .content) (m .server) (here .T .id) (f .slot) (here .S))))
       resumed-good =
-          let set-in : with-session (m .server) (here .T .id) (Some (with-slot (here .S) (f .slot) (finished (here .S) (f .slot) bytes))) ≡ placed = session-set (m .server) (c .terminal) (here .S) (here .session) (here .alone) (here .T .id) (Some (with-slot (here .S) (f .slot) (finished (here .S) (f .slot) bytes))) (here .S-id ∙ sym (here .T-id)) in
+          let set-in : with-session (m .server) (here .T .id) (Some (with-slot (here .S) (f .slot) (finished (here .S) (f .slot) bytes))) ≡ placed = placed-is P first h m inv (c .terminal) o st (here .T .id) (Some (with-slot (here .S) (f .slot) (finished (here .S) (f .slot) bytes))) (sym (here .T-id)) in
           subst (λ s. Then (here .T .id) (X .number) s) (sym set-in) (subst (λ n. Then (here .T .id) n placed) eq (subst (λ d. Then d (f .number) placed) id-is run-inv))
 
   module _ (p slot : ℕ) where

@@ -45,9 +45,6 @@ after-push next reply rq rp k [] c = refl
 after-push next reply rq rp k (r ∷ rs) c = after-push next reply rq rp (next k (r .call .body)) rs c
 
 module _ {Content : Type 0} (next : Content → Bytes → Content) (reply : Content → Bytes → Bytes) (rq : Request → Bytes) (rp : Reply → Bytes) (e : Event) (h : History) where
-  abbrev Before : History → ℕ → List Timed → Type 0
-  Before k x rs = Runs-before next reply rq rp k x rs
-
   -- the time of a run of one in the list is what it was
   ran-then : (x : ℕ) (rs : List Timed) → x ≤ length h → Runs-before next reply rq rp h x rs → (q : Timed) → In q rs → (o y : ℕ) → Session (e ∷ h) (q .call .terminal) o (q .time) → Ran (e ∷ h) o (q .call) y → (y < x) × Session h (q .call .terminal) o (q .time) × Ran h o (q .call) y
   ran-then x rs le b q i o y se r =

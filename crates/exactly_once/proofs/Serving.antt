@@ -1,31 +1,29 @@
 -- A call set aside or run keeps the invariant: what its slot takes at the server, and what is so of every other call.
 use mathlib.Core.Path.{_≡_, refl, ap, sym, _∙_, subst}
-use mathlib.Core.List.{List, _∷_}
-use mathlib.Core.Logic.{_⊎_, inl, ⊎-elim, _≢_}
+use mathlib.Core.List.{_∷_}
+use mathlib.Core.Logic.{_⊎_, inl, inr, ⊎-elim, _≢_}
 use mathlib.Core.Bool.{Bool, true, false, cond}
 use Prim.Native.Nat.{ℕ, suc, _+_, _<_, _≤_}
 use native.Mathlib.Omega.{arith}
 use lib.ListN.{length, getD, set}
 use Rattle.std.proofs.shelf.Lists.{getD-set-same, getD-set-other, length-set}
-use Rattle.std.proofs.shelf.Tests.{cases-eq, cases-lt}
-use Rattle.std.specs.declared.option.Option.{Option}
+use Rattle.std.proofs.shelf.Tests.{cases-eq}
 use Rattle.std.specs.declared.option.Option.the-variants.{Some, None}
 use Rattle.common.specs.Bytes.{Bytes}
 use Rattle.common.specs.Search.{In}
 use Rattle.wire.specs.Wire.{Request, Reply, reply-message}
 use Rattle.server.specs.Server.{SessionM, SlotM, slot-at, with-slot, new-slot, is-working, never}
-use Rattle.terminal.specs.Terminal.{TerminalM, EndM, OpenCall, Effect, end-at}
+use Rattle.terminal.specs.Terminal.{EndM, OpenCall, Effect, end-at}
 use Rattle.exactly_once.specs.History.{Told, run, aside, asked-hear, Event, History}
-use Rattle.exactly_once.specs.Words.{Call, Ordered, Opened, Session, Stands, Open, Heard-before, Ran-before}
-use Rattle.exactly_once.specs.Steps.{Parts, Model, terminal-at}
-use Rattle.exactly_once.proofs.Times.{at-below, newest-or-older}
+use Rattle.exactly_once.specs.Words.{Call, Ordered, Opened, Stands, Open, Heard-before, Ran-before}
+use Rattle.exactly_once.specs.Steps.{Parts, Model}
 use Rattle.exactly_once.proofs.Tables.{some-same, some-none, at-each, within}
-use Rattle.exactly_once.proofs.Unique.{Orders, ordered-one, session-one, opened-one}
-use Rattle.exactly_once.proofs.Newest.{Opens, Ends-session, Replies, Hears, Resumes, Runs, ordered-new, opened-new, stands-new, stands-still, session-new, session-still, open-new, open-still, heard-new, heard-still, ran-new, ran-still}
-use Rattle.exactly_once.proofs.Growth as growth
-use Rattle.exactly_once.proofs.Growth.{grown, flip}
-use Rattle.exactly_once.proofs.Invariant.{Known, Put, Aside, result, Answers, Holds, Close, pend, Ready, Calls, Server-side, Both-sides, Places, Done, Inv}
-use Rattle.exactly_once.proofs.Carry.{Carries-at, known-up, known-new, put-new, put-still, aside-still, terminal-moved, server-carried, both-carried, answers-carried, holds-moved}
+use Rattle.exactly_once.proofs.Unique.{Orders, ordered-one, opened-one}
+use Rattle.exactly_once.proofs.Newest.{Opens, Ends-session, Replies, Hears, Resumes, Runs, open-still, heard-new, heard-still, ran-new, ran-still}
+use Rattle.exactly_once.proofs.Invariant.{Known, Put, result, Answers, Holds, Close, pend, Ready, Server-side, Both-sides, Done, Inv}
+use Rattle.exactly_once.proofs.Carry.{Carries-at, known-up, put-new, put-still, aside-still, aside-old, terminal-moved, holds-moved}
+use Rattle.exactly_once.proofs.Unchanged.{stood, was-open, was-known, calls-on, waiting-on}
+use Rattle.exactly_once.proofs.Replaced.{replaced-inv}
 use Rattle.exactly_once.proofs.Present.{Standing, standing, one-call}
 
 pend-low : (x : SlotM) → pend x ≤ 1
@@ -79,20 +77,8 @@ module _ (P : Parts) (first : P .service .Content) (h : History) (m : Model P) (
     abbrev i : ℕ
     i = f .slot
 
-    back : (u v : ℕ) (d : Call) (g : Request) → Known (e ∷ h) u v d g → Known h u v d g
-    back u v d g k = ⊎-elim (λ q. absurd (W .no-order d (q .1))) (λ q. q) (known-new e h u v d g k)
-
-    old-open : (u v : ℕ) (d : Call) (g : Request) → Known h u v d g → Open (e ∷ h) u d (suc n) → Open h u d n
-    old-open u v d g k x = ⊎-elim (λ q. absurd (omega (arith, q, at-below h u (k .ordered .0) (k .ordered .1)))) (λ q. q .0) (open-new e h u d x)
-
     new-open : (u v : ℕ) (d : Call) (g : Request) → Known h u v d g → Open h u d n → Open (e ∷ h) u d (suc n)
     new-open u v d g k x = open-still e h u d x (W .no-reply d) (W .no-open (d .terminal))
-
-    stood : (q u : ℕ) → Stands (e ∷ h) q u (suc n) → Stands h q u n
-    stood q u x = ⊎-elim (λ y. absurd (W .no-open q (y .1))) (λ y. y .0) (stands-new e h q u x)
-
-    was : (q u : ℕ) → Session (e ∷ h) q u (suc n) → Session h q u n
-    was q u x = ⊎-elim (λ y. absurd (W .no-open q (y .1))) (λ y. y .0) (session-new e h q u x)
 
     -- calls of this session other than c
     old-heard : (u : ℕ) (d : Call) (g : Request) → Known h u o d g → u ≢ t → Heard-before (e ∷ h) o d (suc n) → Heard-before h o d n
@@ -112,7 +98,7 @@ module _ (P : Parts) (first : P .service .Content) (h : History) (m : Model P) (
         (dc, q .3)
 
     split : (Q : ℕ → Call → Request → Type 0) → Q t c f → ((u : ℕ) (d : Call) (g : Request) → Known h u o d g → u ≢ t → Q u d g) → (u : ℕ) (d : Call) (g : Request) → Known (e ∷ h) u o d g → Q u d g
-    split Q new old u d g k = ⊎-elim (λ q. (let r = is-c u d g (back u o d g k) q in subst (λ x. Q x d g) (sym q) (subst (λ x. Q t x g) (sym (r .0)) (subst (λ x. Q t c x) (sym (r .1)) new)))) (λ ne. old u d g (back u o d g k) ne) (cases-eq u t)
+    split Q new old u d g k = ⊎-elim (λ q. (let r = is-c u d g (was-known e h (W .no-order) u o d g k) q in subst (λ x. Q x d g) (sym q) (subst (λ x. Q t x g) (sym (r .0)) (subst (λ x. Q t c x) (sym (r .1)) new)))) (λ ne. old u d g (was-known e h (W .no-order) u o d g k) ne) (cases-eq u t)
 
     inside : i < length (w .S .slots)
     inside = omega (arith, w .server-side .sixteen, inv .calls .placed t o c f z .0)
@@ -204,124 +190,42 @@ module _ (P : Parts) (first : P .service .Content) (h : History) (m : Model P) (
 
       down : Carries-at v (e ∷ h) h
       down = record {
-        known = λ u d g. back u v d g;
-        open-calls = λ u d g k. old-open u v d g (back u v d g k);
-        heard = λ u d g k x. ⊎-elim (λ y. y) (λ y. absurd (not-heard u d g (y .0) (back u v d g k) (y .1))) (heard-new e h v d x);
-        ran = λ u d g k x. ⊎-elim (λ y. y) (λ y. absurd (not-run u d g (back u v d g k) y)) (ran-new e h v d x);
-        put = λ u d g b k x. ⊎-elim (λ y. y) (λ y. absurd (not-run u d g (back u v d g k) (y .0))) (put-new e h v d b x);
-        set-aside = λ u d g k x. earlier u d g (back u v d g k) x;
+        known = λ u d g. was-known e h (W .no-order) u v d g;
+        open-calls = λ u d g k x. was-open e h u v d g (was-known e h (W .no-order) u v d g k) x .0;
+        heard = λ u d g k x. ⊎-elim (λ y. y) (λ y. absurd (not-heard u d g (y .0) (was-known e h (W .no-order) u v d g k) (y .1))) (heard-new e h v d x);
+        ran = λ u d g k x. ⊎-elim (λ y. y) (λ y. absurd (not-run u d g (was-known e h (W .no-order) u v d g k) y)) (ran-new e h v d x);
+        put = λ u d g b k x. ⊎-elim (λ y. y) (λ y. absurd (not-run u d g (was-known e h (W .no-order) u v d g k) (y .0))) (put-new e h v d b x);
+        set-aside = λ u d g k x. aside-old e h v d (λ q sd. absurd (not-heard u d g aside (was-known e h (W .no-order) u v d g k) q)) x;
       }
-        where
-          earlier : (u : ℕ) (d : Call) (g : Request) → Known h u v d g → Aside (e ∷ h) v d → Aside h v d
-          earlier u d g k x =
-              let lt : x .0 < n = ⊎-elim (λ l. l) (λ le. absurd (newest le)) (cases-lt (x .0) n) in
-              (x .0, growth.first-heard (flip (grown e h)) v d (x .0) aside lt (x .1), λ y a b r. x .2 y a (omega (arith, b)) (growth.resumed (grown e h) (d .terminal) (d .slot) y b r))
-            where
-              newest : n ≤ x .0 → ⊥
-              newest le = ⊎-elim (λ s. not-heard u d g aside k (subst (λ y. Hears y d aside) (s .1) (x .1 .0 .1, x .1 .0 .3, x .1 .0 .4))) (λ s. omega (arith, le, s .0)) (newest-or-older e h (x .0) (x .1 .0 .0) (x .1 .0 .2))
 
     -- the whole
-    abbrev sessions' : List (Option SessionM)
-    sessions' = set (m .server .sessions) p (Some R)
-
-    inside-sessions : p < length (m .server .sessions)
-    inside-sessions = within (m .server .sessions) p (w .S) (w .session)
-
-    session-here : getD sessions' p None ≡ Some R
-    session-here = getD-set-same (m .server .sessions) p (Some R) None inside-sessions
-
-    session-away : (q : ℕ) → q ≢ p → getD sessions' q None ≡ getD (m .server .sessions) q None
-    session-away q ne = getD-set-other (m .server .sessions) p q (Some R) None ne
-
-    is-R : (q : ℕ) (S : SessionM) → q ≡ p → getD sessions' q None ≡ Some S → R ≡ S
-    is-R q S is at = some-same R S (sym session-here ∙ ap (λ j. getD sessions' j None) (sym is) ∙ at)
-
-    same-o : (q u : ℕ) → Stands h q u n → q ≡ p → u ≡ o
-    same-o q u sd is = session-one h p u o n (inv .places .newest p u (subst (λ x. Stands h x u n) is sd)) (inv .places .newest p o st)
-
-    all-sessions : (q u : ℕ) (S : SessionM) → Stands (e ∷ h) q u (suc n) → getD sessions' q None ≡ Some S → Server-side (e ∷ h) u S
-    all-sessions q u S sd at = ⊎-elim same differ (cases-eq q p)
-      where
-        same : q ≡ p → Server-side (e ∷ h) u S
-        same is = subst (λ x. Server-side (e ∷ h) u x) (is-R q S is at) (subst (λ x. Server-side (e ∷ h) x R) (sym (same-o q u (stood q u sd) is)) server)
-
-        differ : q ≢ p → Server-side (e ∷ h) u S
-        differ ne = server-carried u (up q u (stood q u sd .0) ne) (down q u (stood q u sd .0) ne) S (inv .sessions q u S (stood q u sd) (sym (session-away q ne) ∙ at))
-
-    all-both : (q u : ℕ) (T : TerminalM) (S : SessionM) → Stands (e ∷ h) q u (suc n) → terminal-at P m q ≡ Some T → getD sessions' q None ≡ Some S → Both-sides (e ∷ h) u T S
-    all-both q u T S sd to at = ⊎-elim same differ (cases-eq q p)
-      where
-        same : q ≡ p → Both-sides (e ∷ h) u T S
-        same is =
-            let ts : w .T ≡ T = some-same (w .T) T (sym (w .terminal) ∙ ap (terminal-at P m) (sym is) ∙ to) in
-            subst (λ x. Both-sides (e ∷ h) u x S) ts (subst (λ x. Both-sides (e ∷ h) u (w .T) x) (is-R q S is at) (subst (λ x. Both-sides (e ∷ h) x (w .T) R) (sym (same-o q u (stood q u sd) is)) both))
-
-        differ : q ≢ p → Both-sides (e ∷ h) u T S
-        differ ne = both-carried u (up q u (stood q u sd .0) ne) (down q u (stood q u sd .0) ne) T S (inv .both q u T S (stood q u sd) to (sym (session-away q ne) ∙ at))
-
-    old-opened : (u q : ℕ) → Opened (e ∷ h) u q → Opened h u q
-    old-opened u q x = ⊎-elim (λ y. absurd (W .no-open q (y .1))) (λ y. y .1) (opened-new e h u q x)
-
     module _ (content : P .service .Content) (qs : P .requests .State) (rs : P .replies .State) where
-      abbrev after : Model P
-      after = record { server = record { boot = m .server .boot; count = m .server .count; sessions = sessions' }; terminals = m .terminals; content = content; requests = qs; replies = rs }
-
-      places : Places P (e ∷ h) (inv .ids) after
-      places = record {
-        eight-sessions = length-set (m .server .sessions) p (Some R) ∙ inv .places .eight-sessions;
-        eight-terminals = inv .places .eight-terminals;
-        boot-fits = inv .places .boot-fits;
-        count-fits = inv .places .count-fits;
-        counted = λ u q x. inv .places .counted u q (old-opened u q x);
-        apart = λ u v q r x y. inv .places .apart u v q r (old-opened u q x) (old-opened v r y);
-        newest = λ q u x. session-still e h q u (inv .places .newest q u (stood q u x)) (W .no-open q);
-        terminal-there = λ q u x. inv .places .terminal-there q u (was q u x);
-        terminal-known = λ q T x. (let y = inv .places .terminal-known q T x in (y .0, session-still e h q (y .0) (y .1) (W .no-open q), y .2));
-        session-there = λ q u x. session-there q u (stood q u x);
-        session-known = session-known;
-      }
-        where
-          session-there : (q u : ℕ) → Stands h q u n → (S : SessionM) × (getD sessions' q None ≡ Some S) × (S .id ≡ inv .ids u)
-          session-there q u sd = ⊎-elim same (λ ne. (let y = inv .places .session-there q u sd in (y .0, session-away q ne ∙ y .1, y .2))) (cases-eq q p)
-            where
-              same : q ≡ p → (S : SessionM) × (getD sessions' q None ≡ Some S) × (S .id ≡ inv .ids u)
-              same is = (R, ap (λ j. getD sessions' j None) is ∙ session-here, w .S-id ∙ ap (inv .ids) (sym (same-o q u sd is)))
-
-          session-known : (q : ℕ) (S : SessionM) → getD sessions' q None ≡ Some S → (u : ℕ) × Stands (e ∷ h) q u (suc n) × (S .id ≡ inv .ids u)
-          session-known q S at = ⊎-elim same (λ ne. (let y = inv .places .session-known q S (sym (session-away q ne) ∙ at) in (y .0, stands-still e h q (y .0) (y .1) (W .no-end q), y .2))) (cases-eq q p)
-            where
-              same : q ≡ p → (u : ℕ) × Stands (e ∷ h) q u (suc n) × (S .id ≡ inv .ids u)
-              same is = (o, stands-still e h q o (subst (λ x. Stands h x o n) (sym is) st) (W .no-end q), ap (λ x. x .id) (sym (is-R q S is at)) ∙ w .S-id)
-
-      calls : Calls (e ∷ h) (inv .ids)
-      calls = record {
-        known = λ u d x. ⊎-elim (λ y. absurd (W .no-order d (y .1))) (λ y. (let k = inv .calls .known u d (y .1) in (k .0, k .1, known-up e h u (k .0) d (k .1) (k .2)))) (ordered-new e h u d x);
-        named = λ u v d g k. inv .calls .named u v d g (back u v d g k);
-        numbered = λ u v d g k. inv .calls .numbered u v d g (back u v d g k);
-        placed = λ u v d g k. inv .calls .placed u v d g (back u v d g k);
-        formed = λ u v d g k. inv .calls .formed u v d g (back u v d g k);
-        once = λ u x v d y g j k l. inv .calls .once u x v d y g j (back u v d g k) (back x v y j l);
-      }
-
       -- with what waits then, and what has run
       pub working-inv : ((b : Bytes) → In b (P .requests .waits qs) → In b (P .requests .waits (m .requests))) → ((b : Bytes) → In b (P .replies .waits rs) → In b (P .replies .waits (m .replies)) ⊎ ((r : Reply) × (b ≡ reply-message r) × Answers (e ∷ h) o c f r)) → ((a : Told) (room : ℕ) (b : Bytes) → e .asked ≡ asked-hear a room → e .took ≡ Some b → b ≡ c .request) → Done P first (e ∷ h) (record { server = record { boot = m .server .boot; count = m .server .count; sessions = set (m .server .sessions) (c .terminal) (Some (with-slot (standing P first h m inv (c .terminal) o st .S) (f .slot) Y)) }; terminals = m .terminals; content = content; requests = qs; replies = rs }) → Inv P first (e ∷ h) (record { server = record { boot = m .server .boot; count = m .server .count; sessions = set (m .server .sessions) (c .terminal) (Some (with-slot (standing P first h m inv (c .terminal) o st .S) (f .slot) Y)) }; terminals = m .terminals; content = content; requests = qs; replies = rs })
-      working-inv asks tells takes done = record {
-        ids = inv .ids;
-        calls = calls;
-        places = places;
-        terminals = λ q u T se at. terminal-moved u T (λ x d g. known-up e h x u d g) (λ x d g. back x u d g) (λ x d g k. new-open x u d g k) (λ x d g k. old-open x u d g k) (inv .terminals q u T (was q u se) at);
-        sessions = all-sessions;
-        both = all-both;
-        waiting = record {
-          requests = λ b j. keep b (inv .waiting .requests b (asks b j));
-          heard = λ x y a room b l k v. ⊎-elim (λ s. (t, o, c, f, known-up e h t o c f z, takes a room b (sym (ap (λ r. r .asked) (s .1)) ∙ k) (sym (ap (λ r. r .took) (s .1)) ∙ v), omega (arith, s .0, at-below h t (z .ordered .0) (z .ordered .1)))) (λ s. (let n = inv .waiting .heard x y a room b (s .1) k v in (n .0, n .1, n .2, n .3, known-up e h (n .0) (n .1) (n .2) (n .3) (n .4), n .5, n .6))) (newest-or-older e h x y l);
-          replies = λ b j. ⊎-elim (λ s. old b (inv .waiting .replies b s)) (λ s. (t, o, c, f, s .0, known-up e h t o c f z, s .1, s .2)) (tells b j);
-        };
+      working-inv asks tells takes done = replaced-inv P first h m inv e after p o (w .T) (record {
+        no-open = W .no-open;
+        no-end = W .no-end;
+        newest = inv .places .newest p o st;
+        boot = refl;
+        count = refl;
+        eight-sessions = length-set (m .server .sessions) p (Some R) ∙ inv .places .eight-sessions;
+        eight-terminals = inv .places .eight-terminals;
+        terminal-here = w .terminal;
+        id = w .T-id;
+        session-here = λ sd. (R, placed, w .S-id);
+        terminal-side = terminal-moved o (w .T) (λ x d g. known-up e h x o d g) (λ x d g. was-known e h (W .no-order) x o d g) (λ x d g k. new-open x o d g k) (λ x d g k y. was-open e h x o d g k y .0) (w .terminal-side);
+        sides-here = λ S at. (let is : R ≡ S = some-same R S (sym placed ∙ at) in subst (λ x. Stands h p o n × (x .id ≡ inv .ids o) × Server-side (e ∷ h) o x × Both-sides (e ∷ h) o (w .T) x) is (st, w .S-id, server, both));
+        terminals-away = λ q ne. refl;
+        sessions-away = λ q ne. getD-set-other (m .server .sessions) p q (Some R) None ne;
+        up = up;
+        down = down;
+        calls = calls-on e h (W .no-order) (inv .ids) (inv .ids) (λ u q x. refl) (inv .calls);
+        waiting = waiting-on e h P m after (inv .waiting) (λ u v d g k. stood e h (W .no-open) (d .terminal) v) (λ b j. inl (asks b j)) (λ a room b x y. (t, o, c, f, z, takes a room b x y)) (λ b j. ⊎-elim inl (λ s. inr (t, o, c, f, s .0, known-up e h t o c f z, s .1, s .2)) (tells b j));
         done = done;
-      }
+      })
         where
-          keep : (b : Bytes) → ((u : ℕ) × (v : ℕ) × (d : Call) × (g : Request) × Known h u v d g × (b ≡ d .request)) → (u : ℕ) × (v : ℕ) × (d : Call) × (g : Request) × Known (e ∷ h) u v d g × (b ≡ d .request)
-          keep b x = (x .0, x .1, x .2, x .3, known-up e h (x .0) (x .1) (x .2) (x .3) (x .4), x .5)
+          after : Model P
+          after = record { server = record { boot = m .server .boot; count = m .server .count; sessions = set (m .server .sessions) (c .terminal) (Some (with-slot (standing P first h m inv (c .terminal) o st .S) (f .slot) Y)) }; terminals = m .terminals; content = content; requests = qs; replies = rs }
 
-          old : (b : Bytes) → ((u : ℕ) × (v : ℕ) × (d : Call) × (g : Request) × (r : Reply) × Known h u v d g × (b ≡ reply-message r) × Answers h v d g r) → (u : ℕ) × (v : ℕ) × (d : Call) × (g : Request) × (r : Reply) × Known (e ∷ h) u v d g × (b ≡ reply-message r) × Answers (e ∷ h) v d g r
-          old b x = (x .0, x .1, x .2, x .3, x .4, known-up e h (x .0) (x .1) (x .2) (x .3) (x .5), x .6, answers-carried (x .1) (x .2) (x .3) (x .4) (stood (x .2 .terminal) (x .1)) (put-still e h (x .1) (x .2)) (ran-still e h (x .1) (x .2)) (x .7))
+          placed : getD (set (m .server .sessions) p (Some R)) p None ≡ Some R
+          placed = getD-set-same (m .server .sessions) p (Some R) None (within (m .server .sessions) p (w .S) (w .session))

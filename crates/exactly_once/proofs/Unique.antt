@@ -3,13 +3,13 @@ use mathlib.Core.Path.{_≡_, sym, _∙_, subst}
 use mathlib.Core.List.{[]}
 use mathlib.Core.Logic.{_⊎_, inl, inr, ⊎-elim}
 use mathlib.Core.Bool.{Bool, false}
-use Prim.Native.Nat.{ℕ, _<_, _≤_}
+use Prim.Native.Nat.{ℕ, _<_}
 use native.Mathlib.Omega.{arith}
 use Rattle.std.proofs.shelf.Tests.{cases-eq, cases-lt}
 use Rattle.std.specs.declared.option.Option.the-variants.{Some}
 use Rattle.common.specs.Bytes.{Bytes}
 use Rattle.exactly_once.specs.History.{Told, run, aside, asked-order, asked-part, ordered, Event, History, At}
-use Rattle.exactly_once.specs.Words.{Call, Ordered, Opened, Stands, Session, Open, Heard, Heard-before, First-heard, Ran, Ran-before}
+use Rattle.exactly_once.specs.Words.{Call, Ordered, Opened, Session, Open, Heard, Heard-before, First-heard, Ran, Ran-before}
 use Rattle.exactly_once.proofs.Times.{at-one}
 
 -- what an event orders
@@ -107,10 +107,6 @@ module _ (h : History) where
       go : Ran h o c (r .0) → Heard-before h o c x
       go (inl a) = (r .0, run, r .1, a .0)
       go (inr a) = (a .0, aside, omega (arith, a .2, r .1), a .1 .0)
-
-  -- only an ordered call closes by a reply, and an event is at one place
-  pub stood-then : (p o x y : ℕ) → o < y → y ≤ x → Stands h p o x → Stands h p o y
-  stood-then p o x y lt le s = (s .0, lt, λ z a b. s .2 z a (omega (arith, b, le)))
 
   -- an open gives one place
   pub opened-one : (o p q : ℕ) → Opened h o p → Opened h o q → p ≡ q

@@ -21,7 +21,8 @@ use Rattle.exactly_once.specs.Steps.{Parts, Model, rest-requests, with-server,
 use Rattle.exactly_once.proofs.Messages.{read-written-request}
 use Rattle.exactly_once.proofs.Tables.{session-found, session-set, within}
 use Rattle.exactly_once.proofs.Invariant.{Known, Inv}
-use Rattle.exactly_once.proofs.Present.{Standing, standing}
+use Rattle.exactly_once.proofs.Present as present
+use Rattle.exactly_once.proofs.Present.{Standing, standing, placed-is}
 
 -- the table with another session at place p, where one with the same id stood alone
 module _ (s : ServerM) (p : ℕ) (S R : SessionM) (at : getD (s .sessions) p None ≡ Some S) (same : R .id ≡ S .id) (alone : (q : ℕ) (r : SessionM) → getD (s .sessions) q None ≡ Some r → r .id ≡ S .id → q ≡ p) where
@@ -58,13 +59,13 @@ module _ (P : Parts) (first : P .service .Content) (h : History) (m : Model P) (
 
   -- the server with a session at the call's place
   abbrev pub placed : SessionM → ServerM
-  placed s = record { boot = m .server .boot; count = m .server .count; sessions = set (m .server .sessions) (c .terminal) (Some s) }
+  placed s = present.placed P first h m inv (c .terminal) (Some s)
 
   pub id-is : here .S .id ≡ f .id
   id-is = here .S-id ∙ sym (inv .calls .named t o c f z)
 
   taken-in : with-session (m .server) (f .id) (Some S1) ≡ placed S1
-  taken-in = session-set (m .server) (c .terminal) (here .S) (here .session) (here .alone) (f .id) (Some S1) id-is
+  taken-in = placed-is P first h m inv (c .terminal) o st (f .id) (Some S1) (sym (inv .calls .named t o c f z))
 
   found-it : session-of (placed S1) (f .id) ≡ Some S1
   found-it = put-found (m .server) (c .terminal) (here .S) S1 (here .session) refl (here .alone) (f .id) id-is
