@@ -1,5 +1,5 @@
 -- The laws over runs.
-use mathlib.Core.Path.{_≡_, refl, ap, ap₂, sym, _∙_, subst}
+use mathlib.Core.Path.{_≡_, refl, ap, sym, _∙_, subst}
 use mathlib.Core.List.{List, [], _∷_, _++_}
 use mathlib.Core.Bool.{Bool, true, false, cond, _&&_}
 use mathlib.Core.Logic.{_⊎_, inl, inr, ⊎-elim}
@@ -15,10 +15,9 @@ use Rattle.std.specs.declared.option.Option.{Option}
 use Rattle.std.specs.declared.option.Option.the-variants.{Some, None}
 use Rattle.common.specs.Bytes.{Bytes}
 use Rattle.common.specs.Search.{In}
-use Rattle.common.specs.Members.{in-append}
 use Rattle.channel.specs.Channel.{ChannelModel, ChannelLaws, take-step, take-gives}
-use Rattle.channel.specs.Channels.{racked, oldest, pipe-model, LossState, loss-start, loss-puts, loss-model, double-model}
-use Rattle.channel.specs.Runs.{Deed, putting, taking, Run, all-put, ahead, after, given, all-out, At-puts, Room, Nothing-new, Keeps-order, is-lost, without, Loses-every, AtMostTwice, done, never, once, twice, each-twice, Gives-at-most-twice, Gives-twice}
+use Rattle.channel.specs.Channels.{racked, oldest, pipe-model, LossState, loss-model, double-model}
+use Rattle.channel.specs.Runs.{putting, taking, Run, all-put, ahead, after, given, all-out, At-puts, Room, Nothing-new, Keeps-order, Gives-while-waiting, is-lost, without, Loses-every, AtMostTwice, done, never, once, twice, each-twice, Gives-at-most-twice, Gives-twice}
 
 ahead-append : (o : Option Bytes) (xs ys : List Bytes) → ahead o xs ++ ys ≡ ahead o (xs ++ ys)
 ahead-append None xs ys = refl
@@ -85,6 +84,12 @@ keeps-order s r room =
   where
     one : (s : List Bytes) (m : Bytes) → Room pipe-model 1 s m → (copies : List Bytes) × ((racked s m ≡ s ++ copies) × ((ms out : List Bytes) → out ≡ ms → (copies ++ out) ≡ m ∷ ms))
     one s m h = (m ∷ [], (racked-room s m (omega (arith, h .0)) (h .1), λ ms out e. ap (λ l. m ∷ l) e))
+
+pub gives-while-waiting : Gives-while-waiting
+gives-while-waiting [] n room e = refl
+gives-while-waiting (m ∷ ms) n room e =
+    let some : take-gives pipe-model (m ∷ ms) n ≡ Some m = rw (le-leb 304 n room) refl in
+    absurd (let z : _≡_ {A = ℕ} 0 1 = cc in omega arith)
 
 abbrev racked-twice : List Bytes → Bytes → List Bytes
 racked-twice s m = racked (racked s m) m

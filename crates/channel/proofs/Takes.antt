@@ -13,8 +13,8 @@ use Rattle.std.proofs.shelf.Lists.{nil-from-length, take-append-le, take-all, d
 use Rattle.std.specs.declared.option.Option.{Option}
 use Rattle.std.specs.declared.option.Option.the-variants.{Some, None}
 use Rattle.common.specs.Bytes.{Bytes}
-use Rattle.channel.specs.Channel.{ChannelModel, take-step, take-gives, taken, laid}
-use Rattle.channel.specs.Channels.{ShelfState, oldest, choice, picked, left, shelf-rests, shelf-model}
+use Rattle.channel.specs.Channel.{take-step, take-gives, taken, laid}
+use Rattle.channel.specs.Channels.{ShelfState, oldest, choice, picked, shelf-rests, shelf-model}
 
 -- a buffer that begins with the message, and what take then promises of it
 pub handed : (o : Option Bytes) (m entry exit : Bytes) (n room : ℕ) → 304 ≤ room → o ≡ Some m → n ≡ length m → exit ≡ m ++ drop n entry → (taken (Some n) exit ≡ cond (leb 304 room) o None) × (exit ≡ laid (cond (leb 304 room) o None) entry)

@@ -1,10 +1,8 @@
 -- What each channel's record stands for.
-use mathlib.Core.List.{List, [], map}
-use Prim.Native.Nat.{ℕ}
+use mathlib.Core.List.{List, map}
 use lib.ListN.{take, drop}
 use denote.Ref.{now}
 use Rattle.common.specs.Bytes.{Bytes}
-use Rattle.channel.specs.Channel.{ChannelModel}
 use Rattle.channel.specs.Channels.{ShelfState, LossState, pipe-model, loss-model, double-model}
 use Rattle.channel.specs.Laws.{pipe-laws, loss-laws, double-laws}
 use Rattle.channel.specs.declared.packet.Packet.{Packet}
@@ -23,15 +21,19 @@ packet-message p = take (p .len) (p .bytes)
 abbrev pub rack-messages : Rack → List Bytes
 rack-messages r = map packet-message (take (r .count) (r .packets))
 
+-- what waits in a pipe
 abbrev pub pipe-state : Pipe → List Bytes
 pipe-state p = rack-messages (p .rack)
 
+-- what waits on a shelf, and the choices that are not used up
 abbrev pub shelf-state : Shelf → ShelfState
 shelf-state s = record { messages = rack-messages (s .rack); choices = drop (s .used) (now (s .choices)) }
 
+-- a loss by its counts and the state of the channel below
 abbrev pub loss-state : {C : Type 0} (c : channel.Ghosts C) → Loss C → LossState (c .model .State)
 loss-state c l = record { every = l .every; since = l .since; inner = c .state (l .inner) }
 
+-- a double by the state of the channel below
 abbrev pub double-state : {C : Type 0} (c : channel.Ghosts C) → Double C → c .model .State
 double-state c d = c .state (d .inner)
 

@@ -10,8 +10,7 @@ use lib.ListN.{length, take, drop, getD}
 use lib.Dec.{eqb, ltb, leb}
 use Rattle.std.proofs.shelf.Tests.{leb-true, and-parts}
 use Rattle.std.specs.shelf.Lists.{removed}
-use Rattle.std.specs.declared.option.Option.{Option}
-use Rattle.std.specs.declared.option.Option.the-variants.{Some, None}
+use Rattle.std.specs.declared.option.Option.the-variants.{Some}
 use Rattle.common.specs.Bytes.{Bytes}
 use Rattle.common.specs.Search.{In}
 use Rattle.channel.specs.Channel.{ChannelModel, ChannelLaws}

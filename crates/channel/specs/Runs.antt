@@ -68,6 +68,10 @@ Nothing-new C = (s : C .State) (r : Run) (m : Bytes) → In m (all-out C s r) �
 abbrev pub Keeps-order : Type 0
 Keeps-order = (s : List Bytes) (r : Run) → At-puts pipe-model (Room pipe-model 1) s r → all-out pipe-model s r ≡ s ++ all-put r
 
+-- And a take with a buffer that suffices gives none only when nothing waits.
+abbrev pub Gives-while-waiting : Type 0
+Gives-while-waiting = (s : List Bytes) (n : ℕ) → 304 ≤ n → take-gives pipe-model s n ≡ None → s ≡ []
+
 -- whether the i-th put is lost: every k-th is, and with k = 0 none
 abbrev pub is-lost : ℕ → ℕ → Bool
 is-lost k i = ltb 0 k && eqb (i % k) 0

@@ -11,6 +11,7 @@ pub struct Double<C: Channel> {
 }
 
 impl<C: Channel> Double<C> {
+    /// From now on, each message put goes in twice.
     pub fn over(inner: C) -> Double<C>
         ensures { λ d. ⌜ double-state C·Channel d ≡ C·Channel .state inner ⌝ }
     {

@@ -1,5 +1,5 @@
 // What channels keep over any run of puts and takes. Each function's contract is the law; its result says nothing.
-ghost use Rattle.channel.specs.Runs.{Nothing-new, Keeps-order, Loses-every, Gives-at-most-twice, Gives-twice};
+ghost use Rattle.channel.specs.Runs.{Nothing-new, Keeps-order, Gives-while-waiting, Loses-every, Gives-at-most-twice, Gives-twice};
 use crate::Channel;
 
 /// Whatever comes out of a channel waited in it at first or was put.
@@ -9,9 +9,10 @@ pub fn nothing_new<C: Channel>() -> u8
     0
 }
 
-/// Through a pipe that never fills, the messages taken are the messages put, in order, each once.
+/// Through a pipe that never fills, the messages taken are the messages put, in order, each once; a take gives none only when nothing waits.
 pub fn pipe_keeps_order() -> u8
-    ensures { λ _. ⌜ Keeps-order ⌝ }
+    ensures order { λ _. ⌜ Keeps-order ⌝ }
+    ensures gives { λ _. ⌜ Gives-while-waiting ⌝ }
 {
     0
 }

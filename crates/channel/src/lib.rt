@@ -1,6 +1,6 @@
 // Channels: what carries messages between terminals and server, and may lose, repeat or reorder them.
 ghost use mathlib.Core.Path.{_≡_};
-ghost use Prim.Native.Nat.{ℕ, _≤_};
+ghost use Prim.Native.Nat.{_≤_};
 ghost use lib.ListN.{length};
 ghost use Rattle.std.specs.Options.{Cases};
 ghost use Rattle.channel.specs.Channel.{ChannelModel, ChannelLaws, take-step, take-gives, taken, laid, none-waits};

@@ -4,6 +4,7 @@ use crate::Channel;
 
 #[derive(Drop)]
 pub struct Loss<C: Channel> {
+    // k, and how many puts were made since the last loss
     every: u8,
     since: u8,
     inner: C,

@@ -2,12 +2,15 @@
 ghost use mathlib.Core.Path.{_≡_};
 ghost use mathlib.Core.List.{[]};
 ghost use lib.ListN.{drop, getD};
-ghost use Rattle.channel.specs.Channels.{ShelfState, shelf-model};
+ghost use Rattle.channel.specs.Channels.{shelf-model};
 ghost use Rattle.channel.specs.Held.{shelf-state};
 ghost use Rattle.channel.specs.Laws.{shelf-laws};
 use crate::Channel;
 use crate::packet::LONGEST;
 use crate::rack::Rack;
+
+/// From this choice on, the message that is given stays.
+const STAYS: u8 = 128;
 
 #[derive(Drop)]
 pub struct Shelf<'a> {
@@ -64,7 +67,7 @@ pub impl<'a> Channel for Shelf<'a> as ShelfChannel {
         let choice = self.next();
         let i = choice as usize % waiting;
         let len = self.rack.copy_to(i, buffer);
-        if choice < 128 {
+        if choice < STAYS {
             self.rack.remove(i);
         }
         Some(len)

@@ -1,5 +1,4 @@
 use native.Mathlib.Omega.{arith}
-use mathlib.Core.Path.{_∙_}
 use lib.ListN.{length}
 use Rattle.std.proofs.shelf.Tests.{le-leb}
 use Rattle.channel.specs.Held.{pipe-state}

@@ -1,5 +1,5 @@
 use native.Mathlib.Omega.{arith}
-use mathlib.Core.Path.{_≡_, ap, _∙_}
+use mathlib.Core.Path.{_≡_, ap}
 use mathlib.Core.Bool.{true, false}
 use lib.Dec.{leb}
 use lib.ListN.{length}
@@ -14,8 +14,8 @@ returns-then-buffer-lt-LONGEST c =
     let p = shelf-none (shelf-state (c .args .self .now)) (length (c .args .buffer .now)) (c .len-waiting .result) (c .len-waiting .ensures .value) (c .then-buffer-lt-LONGEST .either) in
     record { after = p .0; gave = p .1; front = ap (λ o. laid o (c .args .buffer .now)) (p .1); bound = tt }
 
-pub returns-then-choice-lt128 : need.returns-then-choice-lt128
-returns-then-choice-lt128 c =
+pub returns-then-choice-lt-STAYS : need.returns-then-choice-lt-STAYS
+returns-then-choice-lt-STAYS c =
     let s = shelf-state (c .args .self .now) in
     let same = ap rack-messages (c .next-choice .ensures .rack) in
     let n = c .len-waiting .ensures .value in
@@ -25,8 +25,8 @@ returns-then-choice-lt128 c =
     let p = shelf-gave s _ _ _ _ (c .next-choice .result) _ (omega arith) n (omega arith) is same (took .len) (took .after) in
     record { after = shelf-after s _ _ (c .next-choice .result) _ (length (c .args .buffer .now)) (omega arith) n (omega arith) is (rw low (rw same at (c .remove .ensures))) (c .next-choice .ensures .rest); gave = p .0; front = p .1; bound = took .bound }
 
-pub returns-else-choice-lt128 : need.returns-else-choice-lt128
-returns-else-choice-lt128 c =
+pub returns-else-choice-lt-STAYS : need.returns-else-choice-lt-STAYS
+returns-else-choice-lt-STAYS c =
     let s = shelf-state (c .args .self .now) in
     let same = ap rack-messages (c .next-choice .ensures .rack) in
     let n = c .len-waiting .ensures .value in
