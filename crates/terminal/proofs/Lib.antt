@@ -1,3 +1,5 @@
 mod Accepts
+mod Life
+mod Runs
 mod Shown
 mod Steps

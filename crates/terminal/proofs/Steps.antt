@@ -92,7 +92,7 @@ module _ (t : TerminalM) (i : ℕ) where
   unfolding resend-sends
   resend-high h = cond-true _ _ _ (lt-ltb _ _ h)
 
-  resend-low : i ≤ 15 → resend-sends t i ≡ when-found (Err no-open-call) (λ c. Ok (resent t i c)) (end-at t i .call)
+  pub resend-low : i ≤ 15 → resend-sends t i ≡ when-found (Err no-open-call) (λ c. Ok (resent t i c)) (end-at t i .call)
   unfolding resend-sends
   resend-low h = cond-false _ _ _ (le-ltb _ _ h)
 

@@ -1,3 +1,4 @@
+pub mod Laws
 pub mod Models
 pub mod Replies
 pub mod Sends
