@@ -10,16 +10,17 @@ use Rattle.wire.specs.declared.messages.Reach.{Reach as CodeReach}
 use Rattle.wire.specs.Models.{id-model}
 use Rattle.wire.specs.Wire.{SessionId, Request, Reply, Refusal, is-status, top-with, longest-with, padded, then, u32-at, permitted-at, id-at, body-at, end-at}
 
--- the fields that both messages have
+-- session id, number and slot, which both messages have
 pub record Head : Type 0 where
   pub id : SessionId
   pub number : ℕ
   pub slot : ℕ
 
+-- by the code's value
 abbrev pub head-model : CodeHead → Head
 head-model h = record { id = id-model (h .id); number = h .number; slot = h .slot }
 
--- those fields
+-- a head, from an offset on
 abbrev pub head-at : Bytes → ℕ → Result Head Refusal
 head-at bs at =
     then (id-at bs at) (λ id.
@@ -27,15 +28,16 @@ head-at bs at =
     then (u32-at bs (at + 16 + 4)) (λ slot.
     Ok (record { id = id; number = number; slot = slot }))))
 
--- highest and target
+-- highest and target, which only a reply tells together
 pub record Reach : Type 0 where
   pub highest : ℕ
   pub target : ℕ
 
+-- by the code's value
 abbrev pub reach-model : CodeReach → Reach
 reach-model r = record { highest = r .highest; target = r .target }
 
--- those, each at most `top`, and the flags
+-- a reach, each at most `top`, and the flags behind it
 abbrev pub reach-at : ℕ → Bytes → ℕ → Result Reach Refusal
 reach-at top bs at =
     then (permitted-at (λ n. leb n top) bs at) (λ highest.

@@ -11,5 +11,5 @@ abbrev pub written : Writer → Bytes
 written w = take (w .len) (w .bytes)
 
 -- the fields that both messages have
-abbrev pub head-field : SessionId → ℕ → ℕ → Bytes
-head-field id number slot = bytes8 (id .boot) ++ (bytes8 (id .count) ++ (bytes4 number ++ bytes4 slot))
+abbrev pub head-bytes : SessionId → ℕ → ℕ → Bytes
+head-bytes id number slot = bytes8 (id .boot) ++ (bytes8 (id .count) ++ (bytes4 number ++ bytes4 slot))

@@ -1,3 +1,4 @@
+// The messages between terminals and their server, and the refusals that every layer passes up.
 mod laws;
 mod messages;
 mod read;
@@ -12,13 +13,9 @@ pub use laws::reads_written;
 pub use messages::Reply;
 pub use messages::Request;
 pub use messages::SessionId;
-pub use messages::SessionIdDebug;
-pub use messages::SessionIdPartialEq;
 pub use read::read_reply;
 pub use read::read_request;
 pub use refusals::Place;
-pub use refusals::PlaceDebug;
-pub use refusals::PlacePartialEq;
 pub use refusals::Refusal;
 pub use refusals::RefusalDebug;
 pub use refusals::RefusalPartialEq;

@@ -4,7 +4,7 @@ ghost use Rattle.wire.specs.Models.{id-model, request-model, reply-model, stat
 use crate::statuses::Status;
 
 // Names a session for ever: the server's boot number, and a count that each session raises.
-#[derive(Clone, Copy, PartialEq, Eq, Debug)]
+#[derive(Clone, Copy)]
 pub struct SessionId {
     pub boot: u64,
     pub count: u64,

@@ -3,7 +3,7 @@ ghost use Rattle.wire.specs.Wire.{row-of};
 ghost use Rattle.wire.specs.Models.{refusal-model, place-model};
 
 // The part of the house at which a call stops.
-#[derive(Clone, Copy, PartialEq, Eq, Debug)]
+#[derive(Clone, Copy)]
 pub enum Place {
     Buffer,
     Terminal,

@@ -5,7 +5,7 @@ ghost use lib.ListN.{length, drop, replicate};
 ghost use Rattle.common.specs.Bytes.{bytes4, bytes8};
 ghost use Rattle.wire.specs.Wire.{padded, body-field};
 ghost use Rattle.wire.specs.Models.{id-model};
-ghost use Rattle.wire.specs.Written.{written, head-field};
+ghost use Rattle.wire.specs.Written.{written, head-bytes};
 use crate::messages::SessionId;
 
 // A message as it is assembled, apart from the caller's buffer.
@@ -69,7 +69,7 @@ impl Writer {
     // The fields that both messages have.
     pub(crate) fn head(&mut self, id: SessionId, number: u32, slot: u32)
         requires { ⌜ now self .len + 24 ≤ 304 ⌝ }
-        ensures written { λ _. ⌜ written (now (self .exit)) ≡ written (now (self .entry)) ++ head-field (id-model id) number slot ⌝ }
+        ensures written { λ _. ⌜ written (now (self .exit)) ≡ written (now (self .entry)) ++ head-bytes (id-model id) number slot ⌝ }
         ensures len { λ _. ⌜ now (self .exit) .len ≡ now (self .entry) .len + 24 ⌝ }
     {
         self.u64(id.boot);
