@@ -5,6 +5,8 @@ use mathlib.Core.Logic.{_⊎_, inl, inr, ⊎-elim}
 use Prim.Native.Nat.{ℕ, _<_}
 use native.Mathlib.Omega.{arith}
 use lib.ListN.{length}
+use Rattle.std.specs.declared.option.Option.{Option}
+use Rattle.std.specs.declared.option.Option.the-variants.{Some}
 use Rattle.common.specs.Bytes.{Bytes}
 use Rattle.common.specs.Search.{In}
 use Rattle.common.specs.Members.{in-append}
@@ -19,11 +21,14 @@ use Rattle.exactly_once.proofs.Tables.{some-same}
 use Rattle.exactly_once.proofs.Unique.{ordered-one, session-one, ran-one}
 use Rattle.exactly_once.proofs.Runlist.{in-left, in-middle, in-first, in-second, regroup}
 use Rattle.exactly_once.proofs.Onelist.{in-split}
-use Rattle.exactly_once.proofs.Invariant.{Known, Inv}
-use Rattle.exactly_once.proofs.Invariant as invariant
+use Rattle.exactly_once.proofs.Invariant.{Known, result, Inv}
 use Rattle.exactly_once.proofs.Past.{leads, Run-list, Past}
 use Rattle.exactly_once.proofs.Earlier.{ran-below}
 use Rattle.exactly_once.proofs.Results.{ran-after, known-in}
+
+-- an event puts one result
+one-body : (f : Request) (high goal high' goal' : ℕ) (b c : Bytes) (x : Option Bytes) → x ≡ Some (reply-message (result f high goal b)) → x ≡ Some (reply-message (result f high' goal' c)) → b ≡ c
+one-body f high goal high' goal' b c x p q = same-reply-body (result f high goal b) (result f high' goal' c) (some-same _ _ (sym p ∙ q))
 
 module _ (h : History) where
   -- an ordered call that ran at time y
@@ -100,7 +105,7 @@ module _ (P : Parts) (first : P .service .Content) (h : History) (m : Model P) (
       let p = past .closed-answered (q .time) (k .0) (q .call) (k .1) x b z cl in
       let put = p .2 in
       let r = past .results (q .time) (k .0) (q .call) (k .1) (put .0) (put .1) (w .0) (z .session) (z .message, z .slot, z .keep, z .body) (put .3) (put .4) in
-      let same : b ≡ r .body = same-reply-body (invariant.result (k .1) (p .0) (p .1) b) (invariant.result (k .1) (r .highest) (r .target) (r .body)) (some-same _ _ (sym (put .5) ∙ r .puts)) in
+      let same : b ≡ r .body = one-body (k .1) (p .0) (p .1) (r .highest) (r .target) b (r .body) (put .1 .put) (put .5) (r .puts) in
       same ∙ r .given before (w .1) (prefix before later q (put .0) e (w .0, (k .0, z .session, put .3)))
 
   -- a call closed as answered or done has run, so it is in the list

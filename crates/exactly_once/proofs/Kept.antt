@@ -8,13 +8,10 @@ use Rattle.exactly_once.specs.Lived.{PartsLaws, Lived, ends, Keeps}
 use Rattle.exactly_once.proofs.Invariant.{Inv}
 use Rattle.exactly_once.proofs.Present.{rests, equal, usable-open, ahead, level}
 use Rattle.exactly_once.proofs.Onelist.{runs-reach}
-use Rattle.exactly_once.proofs.Histories.{sends, step-keeps, lived-inv}
+use Rattle.exactly_once.proofs.Histories.{step-keeps, lived-inv}
 use Rattle.exactly_once.proofs.Past.{Past, past-made}
-use Rattle.exactly_once.proofs.Onward.{Serves-now, past-grows}
+use Rattle.exactly_once.proofs.Onward.{past-grows}
 use Rattle.exactly_once.proofs.Explained.{explained}
-use Rattle.exactly_once.proofs.Opening.{open-keeps}
-use Rattle.exactly_once.proofs.Take.{take-keeps}
-use Rattle.exactly_once.proofs.Served.{results-put, served-now}
 
 -- the promise from the invariant and from what holds of all times
 pub promised : (P : Parts) (first : P .service .Content) (h : History) (m : Model P) → Inv P first h m → Past P first h → Kept-promise (P .service .next) (P .service .reply) request-message reply-message h first (ends P m) (m .content)
@@ -25,7 +22,7 @@ promised P first h m inv past = record {
   runs-reach = runs-reach P first h m inv;
   -- what a call can count on
   orders = past .orders;
-  sends = sends P first h m inv;
+  sends = λ t c z. (let k = inv .calls .known t c z in (k .1, (k .2 .message, k .2 .slot, k .2 .keep, k .2 .body)));
   served = past .serves;
   results = past .results;
   -- how the two ends agree
@@ -36,19 +33,13 @@ promised P first h m inv past = record {
   level = λ t o c or op se st. level P first h m inv t o c or op se st;
 }
 
--- how the newest event serves an open call
-serves-now : (P : Parts) (laws : PartsLaws P) (first : P .service .Content) → Serves-now P first
-serves-now P laws first h m inv past a t o c f or se fi op st = served-now P laws first inv (results-put P first h (past .results)) a t o c f or se fi op st
-
 module _ (P : Parts) (laws : PartsLaws P) where
-  -- the invariant of every history
-  holds : (first : P .service .Content) {h : History} {m : Model P} → Lived P first h m → Inv P first h m
-  holds first l = lived-inv P laws first (open-keeps P first) (take-keeps P laws first) l
-
-  -- and what holds of all its times
-  held : (first : P .service .Content) {h : History} {m : Model P} → Lived P first h m → Past P first h
-  held first (lived.made f) = past-made P first
-  held first (lived.met {h = h} {m = m} a l e) = past-grows P laws first h m (holds first l) a (step-keeps P laws first (open-keeps P first) (take-keeps P laws first) h m (holds first l) a) (held first l) (serves-now P laws first)
+  -- what holds of all times of a history
+  always : (first : P .service .Content) {h : History} {m : Model P} → Lived P first h m → Past P first h
+  always first (lived.made f) = past-made P first
+  always first (lived.met {h = h} {m = m} a l e) =
+      let inv = lived-inv P laws first l in
+      past-grows P laws first h m inv a (step-keeps P laws first h m inv a) (always first l)
 
   pub keeps : Keeps P
-  keeps first h m l = promised P first h m (holds first l) (held first l)
+  keeps first h m l = promised P first h m (lived-inv P laws first l) (always first l)

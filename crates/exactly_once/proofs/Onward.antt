@@ -23,12 +23,8 @@ use Rattle.exactly_once.proofs.Past.{Has-fields, Result-put, Is-served, Has-re
 use Rattle.exactly_once.proofs.Earlier.{ran-below, put-up, served-still, ran-ordered, runs-still, result-still}
 use Rattle.exactly_once.proofs.Orders.{orders-now}
 use Rattle.exactly_once.proofs.Outcomes.{answered-put, done-ran}
+use Rattle.exactly_once.proofs.Served.{results-put, served-now}
 use Rattle.exactly_once.proofs.Results.{runs-known, result-now}
-
-module _ (P : Parts) (first : P .service .Content) where
-  -- how an open call of a standing session is served by the newest event
-  abbrev pub Serves-now : Type 0
-  Serves-now = (h : History) (m : Model P) → Inv P first h m → Past P first h → (a : Asked) (t o : ℕ) (c : Call) (f : Request) → Ordered h t c → Session h (c .terminal) o t → Has-fields P first c f → Open h t c (length h) → Stands h (c .terminal) o (length h) → Is-served P first (event-of P m a ∷ h) o c f (length h) (event-of P m a)
 
 module _ (P : Parts) (laws : PartsLaws P) (first : P .service .Content) (h : History) (m : Model P) (inv : Inv P first h m) (a : Asked) (after : Inv P first (event-of P m a ∷ h) (act P m a .after)) (past : Past P first h) where
   abbrev e : Event
@@ -66,8 +62,8 @@ module _ (P : Parts) (laws : PartsLaws P) (first : P .service .Content) (h : His
   ordered-old : (t : ℕ) (c : Call) → t < n → Ordered k t c → Ordered h t c
   ordered-old t c lt or = growth.ordered down t c lt or
 
-  serves : Serves-now P first → (t o : ℕ) (c : Call) (f : Request) (x : ℕ) (v : Event) → Ordered k t c → Session k (c .terminal) o t → Has-fields P first c f → Open k t c x → Stands k (c .terminal) o x → At k x v → Is-served P first k o c f x v
-  serves now t o c f x v or se fi op st at = ⊎-elim newest older (newest-or-older e h x v at)
+  serves : (t o : ℕ) (c : Call) (f : Request) (x : ℕ) (v : Event) → Ordered k t c → Session k (c .terminal) o t → Has-fields P first c f → Open k t c x → Stands k (c .terminal) o x → At k x v → Is-served P first k o c f x v
+  serves t o c f x v or se fi op st at = ⊎-elim newest older (newest-or-older e h x v at)
     where
       before : x ≤ n → (Ordered h t c) × Session h (c .terminal) o t × Open h t c x × Stands h (c .terminal) o x
       before le =
@@ -77,7 +73,7 @@ module _ (P : Parts) (laws : PartsLaws P) (first : P .service .Content) (h : His
       newest : (x ≡ n) × (v ≡ e) → Is-served P first k o c f x v
       newest q =
           let w = before (omega (arith, q .0)) in
-          subst (λ y. Is-served P first k o c f x y) (sym (q .1)) (subst (λ y. Is-served P first k o c f y e) (sym (q .0)) (now h m inv past a t o c f (w .0) (w .1) fi (subst (λ y. Open h t c y) (q .0) (w .2)) (subst (λ y. Stands h (c .terminal) o y) (q .0) (w .3))))
+          subst (λ y. Is-served P first k o c f x y) (sym (q .1)) (subst (λ y. Is-served P first k o c f y e) (sym (q .0)) (served-now P laws first inv (results-put P first h (past .results)) a t o c f (w .0) (w .1) fi (subst (λ y. Open h t c y) (q .0) (w .2)) (subst (λ y. Stands h (c .terminal) o y) (q .0) (w .3))))
 
       older : (x < n) × At h x v → Is-served P first k o c f x v
       older q =
@@ -133,11 +129,11 @@ module _ (P : Parts) (laws : PartsLaws P) (first : P .service .Content) (h : His
   closed-done : (t o : ℕ) (c : Call) (f : Request) (x : ℕ) → Known k t o c f → Closed k t c x done → Ran-before k o c x
   closed-done t o c f x z cl = closing t o c f x done (λ y. Ran-before k o c y) z cl (λ kn op s. growth.ran-before up o c n (omega arith) (done-ran P laws first h m inv t o c f kn op a s .0)) (λ lt kn s. growth.ran-before up o c x (omega (arith, lt)) (past .closed-done t o c f x kn s))
 
-  pub past-grows : Serves-now P first → Past P first (event-of P m a ∷ h)
-  past-grows now = record {
+  pub past-grows : Past P first (event-of P m a ∷ h)
+  past-grows = record {
     runs = runs-still P first e h (act P m a .after) after past;
     orders = orders;
-    serves = serves now;
+    serves = serves;
     results = results;
     ran-open = ran-open;
     closed-answered = closed-answered;

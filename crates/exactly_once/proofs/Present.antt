@@ -14,8 +14,8 @@ use Rattle.wire.specs.Wire.{SessionId, Request}
 use Rattle.common.specs.Search.{when-found}
 use Rattle.server.specs.Server.{SlotM, SessionM, session-of, slot-at, new-slot, ServerM, with-session}
 use Rattle.terminal.specs.Terminal.{TerminalM, EndM, OpenCall, end-at, is-busy, new-end}
-use Rattle.exactly_once.specs.History.{History}
-use Rattle.exactly_once.specs.Words.{Call, Ordered, Opened, Stands, Session, Open, Heard-before}
+use Rattle.exactly_once.specs.History.{History, Told}
+use Rattle.exactly_once.specs.Words.{Call, Ordered, Opened, Stands, Session, Open, Heard-before, Heard}
 use Rattle.exactly_once.specs.Steps.{Parts, Model, terminal-at}
 use Rattle.exactly_once.specs.Lived.{ends, end-of, slot-of}
 use Rattle.exactly_once.proofs.Messages.{same-request}
@@ -123,6 +123,13 @@ module _ (P : Parts) (first : P .service .Content) (h : History) (m : Model P) (
   one-call t u o v c d f g x y e =
       let fs : f ≡ g = same-request f g (x .fits) (x .short) (y .fits) (y .short) (sym (x .message) ∙ e ∙ y .message) in
       same-call t u o v c d f g x y (ap (λ z. z .id) fs) (ap (λ z. z .slot) fs) (ap (λ z. z .number) fs)
+
+  -- a call is heard after it was ordered
+  pub heard-after : (t o : ℕ) (c : Call) (f : Request) (x : ℕ) (w : Told) → Known h t o c f → Heard h o c x w → t < x
+  heard-after t o c f x w z y =
+      let k = inv .waiting .heard x (y .0) w (y .1) (c .request) (y .2) (y .3) (y .4) in
+      let same : t ≡ k .0 = one-call t (k .0) o (k .1) c (k .2) f (k .3) z (k .4) (k .5) .0 in
+      subst (λ v. v < x) (sym same) (k .6)
 
   -- a call whose number is that of a slot with an open call is the open one
   pub held-is : (t o : ℕ) (c : Call) (f : Request) (T : TerminalM) → Terminal-side h o T → Known h t o c f → f .number ≡ end-at T (f .slot) .number → (k : OpenCall) → end-at T (f .slot) .call ≡ Some k → Open h t c (length h)

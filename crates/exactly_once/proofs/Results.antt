@@ -22,7 +22,7 @@ use Rattle.exactly_once.proofs.Runlist.{runs-stay}
 use Rattle.exactly_once.proofs.Onelist.{runs-same}
 use Rattle.exactly_once.proofs.Invariant.{Known, Inv}
 use Rattle.exactly_once.proofs.Carry.{known-old}
-use Rattle.exactly_once.proofs.Histories.{heard-after}
+use Rattle.exactly_once.proofs.Present.{heard-after}
 use Rattle.exactly_once.proofs.Past.{leads, Run-list, Has-fields, Has-result}
 use Rattle.exactly_once.proofs.Earlier.{unrun}
 use Rattle.exactly_once.proofs.Runs.{Run-now, run-now}
