@@ -1,4 +1,4 @@
--- Present words before and after an event, and what a quiet event leaves of the invariant. Assumes nothing.
+-- Present words before and after an event, and what a quiet event leaves of the invariant.
 use mathlib.Core.Path.{_≡_, ap, sym, _∙_, subst}
 use mathlib.Core.List.{_∷_}
 use mathlib.Core.Logic.{_⊎_, inl, inr, ⊎-elim}

@@ -1,4 +1,4 @@
--- A terminal after a reply that closed a call: what each slot holds then. Assumes nothing.
+-- A terminal after a reply that closed a call: what each slot holds then.
 use mathlib.Core.Path.{_≡_, refl, ap, sym, _∙_, subst}
 use mathlib.Core.List.{List, [], _∷_, map}
 use mathlib.Core.Logic.{_⊎_, inl, inr, ⊎-elim, _≢_}

@@ -1,4 +1,4 @@
--- Two histories alike below a time: each word about earlier times is the same for both. Assumes nothing.
+-- Two histories alike below a time: each word about earlier times is the same for both.
 use mathlib.Core.List.{_∷_}
 use mathlib.Core.Logic.{inl, inr}
 use Prim.Native.Nat.{ℕ, _<_, _≤_}

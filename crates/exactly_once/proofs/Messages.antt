@@ -1,4 +1,4 @@
--- What equal messages have in common, from that each is read as it was written. Assumes nothing.
+-- What equal messages have in common, from that each is read as it was written.
 use mathlib.Core.Path.{_≡_, refl, sym, ap, _∙_}
 use mathlib.Core.List.{[], _++_}
 use mathlib.Core.Bool.{true, false}

@@ -1,4 +1,4 @@
--- What the newest event adds to each word. Assumes nothing.
+-- What the newest event adds to each word.
 use mathlib.Core.Path.{_≡_, subst}
 use mathlib.Core.List.{_∷_}
 use mathlib.Core.Logic.{_⊎_, inl, inr, ⊎-elim}

@@ -1,4 +1,4 @@
--- The list of the runs before a time: it stays when the history grows, and it grows by a run. Assumes nothing.
+-- The list of the runs before a time: it stays when the history grows, and it grows by a run.
 use mathlib.Core.Path.{_≡_, refl, ap, ap₂, sym, _∙_, subst}
 use mathlib.Core.List.{List, [], _∷_, _++_}
 use mathlib.Core.Logic.{_⊎_, inl, inr, ⊎-elim}

@@ -1,4 +1,4 @@
--- Tables: the lowest index that passes a test, a write to one place, and the session of an id. Assumes nothing.
+-- Tables: the lowest index that passes a test, a write to one place, and the session of an id.
 use mathlib.Core.Path.{_≡_, refl, ap, sym, _∙_}
 use mathlib.Core.List.{List, [], _∷_}
 use mathlib.Core.Bool.{Bool, true, false}

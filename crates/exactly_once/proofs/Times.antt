@@ -1,4 +1,4 @@
--- The times of a history: an event has one time, below the length, and a time one event. Assumes nothing.
+-- The times of a history: an event has one time, below the length, and a time one event.
 use mathlib.Core.Path.{_≡_, refl, sym, _∙_}
 use mathlib.Core.List.{[], _∷_}
 use mathlib.Core.Logic.{_⊎_, inl, inr, ⊎-elim}

@@ -1,4 +1,4 @@
--- What a history tells once: the call ordered at a time, the session of a time, the first hearing, the run. Assumes nothing.
+-- What a history tells once: the call ordered at a time, the session of a time, the first hearing, the run.
 use mathlib.Core.Path.{_≡_, sym, _∙_, subst}
 use mathlib.Core.List.{[]}
 use mathlib.Core.Logic.{_⊎_, inl, inr, ⊎-elim}
