@@ -1,1 +1,4 @@
 pub mod Server
+pub mod Trays
+pub mod Models
+pub mod Places

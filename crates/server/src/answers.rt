@@ -1,0 +1,31 @@
+use crate::records::Body;
+use wire::SessionId;
+use wire::Status;
+
+/// The outcome of a finished call.
+#[derive(Clone, Copy)]
+pub struct Outcome {
+    pub(crate) highest: u32,
+    pub(crate) target: u32,
+    pub(crate) body: Body,
+}
+
+/// What a slot says of a request: a status, the outcome of the call that it repeats, or that it is new.
+#[derive(Clone, Copy)]
+pub enum Verdict {
+    Refuse(Status),
+    Repeat(Outcome),
+    New,
+}
+
+/// A reply with bytes of its own.
+#[derive(Clone, Copy)]
+pub struct Answer {
+    pub(crate) status: Status,
+    pub(crate) id: SessionId,
+    pub(crate) number: u32,
+    pub(crate) slot: u32,
+    pub(crate) highest: u32,
+    pub(crate) target: u32,
+    pub(crate) body: Body,
+}
