@@ -5,7 +5,7 @@ ghost use lib.ListN.{drop};
 ghost use Rattle.std.specs.Vec.{made};
 ghost use Rattle.std.specs.declared.result.Result.the-variants.{Ok};
 ghost use Rattle.wire.specs.Wire.{request-message, read-request, read-reply};
-ghost use Rattle.wire.specs.Models.{answered, same};
+ghost use Rattle.wire.specs.Models.{answer-model, itself};
 ghost use Rattle.ledger.specs.Books.{book};
 ghost use Rattle.ledger.specs.Ledger.{ledger-after};
 ghost use Rattle.bakehouse.specs.Desk.{withdrawal-ask, withdrawal-request, served-bins, served-size, served-out, heard, passed, passes};
@@ -53,7 +53,7 @@ fn write_withdrawal(
     number: u32,
     out: &mut [u8; 304],
 ) -> Result<usize, Refusal>
-    ensures answer { λ r. ⌜ answered same r ≡ Ok 48 ⌝ }
+    ensures answer { λ r. ⌜ answer-model itself r ≡ Ok 48 ⌝ }
     ensures out { λ _. ⌜ now (out .exit) ≡ request-message (withdrawal-request withdrawal number) ++ drop 48 (now (out .entry)) ⌝ }
 {
     let body = move_body(
@@ -75,7 +75,7 @@ fn write_withdrawal(
 // The server reads a request, runs its body on the ledger, and writes the reply.
 fn serve(ledger: &mut Ledger, message: &[u8], out: &mut [u8; 304]) -> Result<usize, Refusal>
     ensures bins { λ _. ⌜ book (now (ledger .exit)) ≡ served-bins (book (now (ledger .entry))) (read-request (now (message .entry))) ⌝ }
-    ensures answer { λ r. ⌜ answered same r ≡ served-size (book (now (ledger .entry))) (read-request (now (message .entry))) ⌝ }
+    ensures answer { λ r. ⌜ answer-model itself r ≡ served-size (book (now (ledger .entry))) (read-request (now (message .entry))) ⌝ }
     ensures out { λ _. ⌜ now (out .exit) ≡ served-out (book (now (ledger .entry))) (read-request (now (message .entry))) (now (out .entry)) ⌝ }
     ensures fits { λ r. ⌜ made r (λ n. n ≤ 304) ⌝ }
 {
@@ -96,7 +96,7 @@ fn serve(ledger: &mut Ledger, message: &[u8], out: &mut [u8; 304]) -> Result<usi
 
 // The terminal reads the reply, and what its body says.
 fn hear(message: &[u8]) -> Result<Option<Answer>, Refusal>
-    ensures { λ r. ⌜ answered same r ≡ heard (read-reply (now (message .entry))) ⌝ }
+    ensures { λ r. ⌜ answer-model itself r ≡ heard (read-reply (now (message .entry))) ⌝ }
 {
     let reply = read_reply(message)?;
     Ok(Answer::read(reply.body))
@@ -109,7 +109,7 @@ pub fn withdraw(
     number: u32,
 ) -> Result<Exchange, Refusal>
     ensures bins { λ _. ⌜ book (now (ledger .exit)) ≡ ledger-after (book (now (ledger .entry))) (withdrawal-ask withdrawal) ⌝ }
-    ensures passed { λ r. ⌜ answered passed r ≡ Ok (passes (book (now (ledger .entry))) withdrawal number) ⌝ }
+    ensures passed { λ r. ⌜ answer-model passed r ≡ Ok (passes (book (now (ledger .entry))) withdrawal number) ⌝ }
 {
     let mut request = [0u8; 304];
     let asked = write_withdrawal(withdrawal, number, &mut request)?;

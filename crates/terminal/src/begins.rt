@@ -2,7 +2,7 @@ ghost use mathlib.Core.Path.{_≡_};
 ghost use Prim.Native.Nat.{_<_};
 ghost use lib.ListN.{length};
 ghost use Rattle.std.specs.Vec.{made};
-ghost use Rattle.wire.specs.Models.{answered, same};
+ghost use Rattle.wire.specs.Models.{answer-model, itself};
 ghost use Rattle.terminal.specs.Terminal.{end-at, with-end, begun, order-sends, part-sends, resend-sends, can-part, after-sending};
 ghost use Rattle.terminal.specs.Models.{terminal-model, call-model};
 ghost use Rattle.terminal.specs.Sends.{slot-of};
@@ -26,7 +26,7 @@ impl Terminal {
 
     /// Begins a call with that body at the lowest slot that can take one, and tells the slot.
     pub(crate) fn begin_order(&mut self, keep: bool, body: &[u8]) -> Result<usize, Refusal>
-        ensures answer { λ r. ⌜ answered same r ≡ slot-of (order-sends (terminal-model (now (self .entry))) keep (now (body .entry))) ⌝ }
+        ensures answer { λ r. ⌜ answer-model itself r ≡ slot-of (order-sends (terminal-model (now (self .entry))) keep (now (body .entry))) ⌝ }
         ensures terminal { λ _. ⌜ terminal-model (now (self .exit)) ≡ after-sending (terminal-model (now (self .entry))) (order-sends (terminal-model (now (self .entry))) keep (now (body .entry))) ⌝ }
         ensures resends { λ r. ⌜ made r (λ i. resend-sends (terminal-model (now (self .exit))) i ≡ order-sends (terminal-model (now (self .entry))) keep (now (body .entry))) ⌝ }
     {
@@ -57,7 +57,7 @@ impl Terminal {
 
     /// Begins a part at that slot.
     pub(crate) fn begin_part(&mut self, slot: usize) -> Result<usize, Refusal>
-        ensures answer { λ r. ⌜ answered same r ≡ slot-of (part-sends (terminal-model (now (self .entry))) slot) ⌝ }
+        ensures answer { λ r. ⌜ answer-model itself r ≡ slot-of (part-sends (terminal-model (now (self .entry))) slot) ⌝ }
         ensures terminal { λ _. ⌜ terminal-model (now (self .exit)) ≡ after-sending (terminal-model (now (self .entry))) (part-sends (terminal-model (now (self .entry))) slot) ⌝ }
         ensures resends { λ r. ⌜ made r (λ i. resend-sends (terminal-model (now (self .exit))) i ≡ part-sends (terminal-model (now (self .entry))) slot) ⌝ }
     {

@@ -1,7 +1,7 @@
 ghost use mathlib.Core.Path.{_≡_};
 ghost use Prim.Native.Nat.{_<_};
 ghost use Rattle.std.specs.Options.{mapped};
-ghost use Rattle.wire.specs.Models.{answered, reply-model};
+ghost use Rattle.wire.specs.Models.{answer-model, reply-model};
 ghost use Rattle.terminal.specs.Terminal.{closed, parted, learns-target, learns, reply-effect, after-effect, after-accept};
 ghost use Rattle.terminal.specs.Models.{terminal-model, end-model, call-model};
 ghost use Rattle.terminal.specs.Replies.{effect-model, accept-answer, call-numbered, call-of};
@@ -117,7 +117,7 @@ impl Terminal {
 
     /// Takes a reply: closes the open call that it belongs to, if its status does, and learns what it tells.
     pub fn accept<'a>(&mut self, reply: Reply<'a>) -> Result<Effect<'a>, Refusal>
-        ensures answer { λ r. ⌜ answered effect-model r ≡ accept-answer (terminal-model (now (self .entry))) (reply-model (reply .entry)) ⌝ }
+        ensures answer { λ r. ⌜ answer-model effect-model r ≡ accept-answer (terminal-model (now (self .entry))) (reply-model (reply .entry)) ⌝ }
         ensures terminal { λ _. ⌜ terminal-model (now (self .exit)) ≡ after-accept (terminal-model (now (self .entry))) (reply-model (reply .entry)) ⌝ }
     {
         let Some(call) = self.call_of(reply) else {
