@@ -1,5 +1,6 @@
-mod Accepts
-mod Life
-mod Runs
+pub mod Accepts
+pub mod Life
+pub mod Runs
 mod Shown
-mod Steps
+pub mod Steps
+pub mod Teaching

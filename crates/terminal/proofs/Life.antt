@@ -154,10 +154,10 @@ kept-then t u v p q = record { id = q .id ∙ p .id; count = q .count ∙ p .cou
 kept-self : (t : TerminalM) → Kept t t
 kept-self t = record { id = refl; count = refl }
 
-end-kept : (t : TerminalM) (i : ℕ) (x : EndM) → Kept t (with-end t i x)
+pub end-kept : (t : TerminalM) (i : ℕ) (x : EndM) → Kept t (with-end t i x)
 end-kept t i x = record { id = refl; count = length-set (t .slots) i x }
 
-learns-target-kept : (t : TerminalM) (r : Reply) (b : Bool) → Kept t (cond b (heard-target t (r .target)) t)
+pub learns-target-kept : (t : TerminalM) (r : Reply) (b : Bool) → Kept t (cond b (heard-target t (r .target)) t)
 learns-target-kept t r true = record { id = refl; count = front-length (with-usable true) (r .target + 1) (t .slots) }
 learns-target-kept t r false = kept-self t
 

@@ -64,15 +64,15 @@ pub record Taught-nothing (before after : TerminalM) : Type 0 where
   pub target : after .heard ≡ before .heard
   pub opens-none : (j : ℕ) → end-at after j .usable ≡ true → end-at before j .usable ≡ true
 
--- A reply to a call that is not fresh teaches nothing; and of a call that is no part, it shuts nothing either.
-pub record Stale-reply (t : TerminalM) (r : Reply) (c : OpenCall) : Type 0 where
-  pub teaches : Taught-nothing t (after-accept t r)
-  pub others : (j : ℕ) → (j ≡ r .slot → ⊥) → end-at (after-accept t r) j .usable ≡ end-at t j .usable
-  pub own : c .part ≡ false → end-at (after-accept t r) (r .slot) .usable ≡ end-at t (r .slot) .usable
+-- A reply to a call that is not fresh teaches nothing; and where the call is no part, it shuts nothing either.
+pub record Stale-reply (t after : TerminalM) (r : Reply) (c : OpenCall) : Type 0 where
+  pub teaches : Taught-nothing t after
+  pub others : (j : ℕ) → (j ≡ r .slot → ⊥) → end-at after j .usable ≡ end-at t j .usable
+  pub own : c .part ≡ false → end-at after (r .slot) .usable ≡ end-at t (r .slot) .usable
 
 abbrev pub Stale-replies-teach-nothing : Type 0
 Stale-replies-teach-nothing =
-    (t : TerminalM) (r : Reply) (c : OpenCall) → end-at t (r .slot) .call ≡ Some c → c .fresh ≡ false → Stale-reply t r c
+    (t : TerminalM) (r : Reply) (c : OpenCall) → end-at t (r .slot) .call ≡ Some c → c .fresh ≡ false → Stale-reply t (after-accept t r) r c
 
 -- the terminal after several replies
 abbrev pub after-replies : TerminalM → List Reply → TerminalM
