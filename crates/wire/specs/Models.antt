@@ -2,7 +2,6 @@
 use Prim.Native.Nat.{ℕ}
 use mathlib.Core.List.{List}
 use denote.Ref.{RefT}
-use lib.ListN.{length}
 use Rattle.std.specs.declared.option.Option.{Option}
 use Rattle.std.specs.declared.option.Option.the-variants.{Some, None}
 use Rattle.std.specs.declared.result.Result.{Result}
@@ -87,8 +86,3 @@ lent b = b .now
 abbrev pub answer-model : {X Y : Type 0} → (X → Y) → Result X CodeRefusal → Result Y Refusal
 answer-model model (Ok x) = Ok (model x)
 answer-model model (Err e) = Err (refusal-model e)
-
--- how many bytes were lent
-abbrev pub size-of : Result (RefT (List ℕ)) CodeRefusal → ℕ
-size-of (Ok b) = length (b .now)
-size-of (Err e) = 0

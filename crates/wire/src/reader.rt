@@ -1,14 +1,12 @@
 ghost use mathlib.Core.Path.{_≡_};
-ghost use mathlib.Core.Bool.{cond};
 ghost use Prim.Native.Nat.{ℕ, _+_, _-_, _≤_};
 ghost use lib.Dec.{leb, eqb};
 ghost use lib.ListN.{length};
-ghost use Rattle.std.specs.Results.{isOk};
 ghost use Rattle.std.specs.Vec.{made};
 ghost use Rattle.common.specs.Bytes.{be32, be64};
 ghost use Rattle.wire.specs.Wire.{is-status, padded, u32-at, permitted-at, id-at, zeros-at, body-at, end-at};
 ghost use Rattle.wire.specs.Groups.{head-model, head-at, reach-model, reach-at, last-at, request-at, reply-at};
-ghost use Rattle.wire.specs.Models.{answer-model, itself, lent, size-of, id-model, request-model, reply-model, status-number};
+ghost use Rattle.wire.specs.Models.{answer-model, itself, lent, id-model, request-model, reply-model, status-number};
 use crate::messages::Head;
 use crate::messages::Reach;
 use crate::messages::Reply;
@@ -17,7 +15,7 @@ use crate::messages::SessionId;
 use crate::refusals::Refusal;
 use crate::statuses::Status;
 
-// Stands on lent bytes and keeps its place. A method that refuses leaves it where it was.
+// Stands on lent bytes and keeps its place.
 #[derive(Drop)]
 pub(crate) struct Reader<'a> {
     bytes: &'a [u8],
@@ -69,7 +67,7 @@ impl<'a> Reader<'a> {
     pub(crate) fn u32(&mut self) -> Result<u32, Refusal>
         ensures value { λ r. ⌜ answer-model itself r ≡ u32-at (now (now (self .entry) .bytes)) (now (self .entry) .at) ⌝ }
         ensures bytes { λ _. ⌜ now (self .exit) .bytes ≡ now (self .entry) .bytes ⌝ }
-        ensures at { λ r. ⌜ now (self .exit) .at ≡ cond (isOk r) (now (self .entry) .at + 4) (now (self .entry) .at) ⌝ }
+        ensures at { λ r. ⌜ made r (λ _. now (self .exit) .at ≡ now (self .entry) .at + 4) ⌝ }
     {
         if self.left() < 4 {
             return Err(Refusal::Unreadable { offset: self.at });
@@ -83,7 +81,7 @@ impl<'a> Reader<'a> {
     pub(crate) fn id(&mut self) -> Result<SessionId, Refusal>
         ensures value { λ r. ⌜ answer-model id-model r ≡ id-at (now (now (self .entry) .bytes)) (now (self .entry) .at) ⌝ }
         ensures bytes { λ _. ⌜ now (self .exit) .bytes ≡ now (self .entry) .bytes ⌝ }
-        ensures at { λ r. ⌜ now (self .exit) .at ≡ cond (isOk r) (now (self .entry) .at + 16) (now (self .entry) .at) ⌝ }
+        ensures at { λ r. ⌜ made r (λ _. now (self .exit) .at ≡ now (self .entry) .at + 16) ⌝ }
     {
         if self.left() < 16 {
             return Err(Refusal::Unreadable { offset: self.at });
@@ -98,12 +96,11 @@ impl<'a> Reader<'a> {
     pub(crate) fn at_most(&mut self, most: u32) -> Result<u32, Refusal>
         ensures value { λ r. ⌜ answer-model itself r ≡ permitted-at (λ n. leb n most) (now (now (self .entry) .bytes)) (now (self .entry) .at) ⌝ }
         ensures bytes { λ _. ⌜ now (self .exit) .bytes ≡ now (self .entry) .bytes ⌝ }
-        ensures at { λ r. ⌜ now (self .exit) .at ≡ cond (isOk r) (now (self .entry) .at + 4) (now (self .entry) .at) ⌝ }
+        ensures at { λ r. ⌜ made r (λ _. now (self .exit) .at ≡ now (self .entry) .at + 4) ⌝ }
     {
         let offset = self.at;
         let number = self.u32()?;
         if number > most {
-            self.at = offset;
             return Err(Refusal::Unreadable { offset });
         }
         Ok(number)
@@ -113,12 +110,11 @@ impl<'a> Reader<'a> {
     pub(crate) fn exactly(&mut self, value: u32) -> Result<u32, Refusal>
         ensures value { λ r. ⌜ answer-model itself r ≡ permitted-at (λ n. eqb n value) (now (now (self .entry) .bytes)) (now (self .entry) .at) ⌝ }
         ensures bytes { λ _. ⌜ now (self .exit) .bytes ≡ now (self .entry) .bytes ⌝ }
-        ensures at { λ r. ⌜ now (self .exit) .at ≡ cond (isOk r) (now (self .entry) .at + 4) (now (self .entry) .at) ⌝ }
+        ensures at { λ r. ⌜ made r (λ _. now (self .exit) .at ≡ now (self .entry) .at + 4) ⌝ }
     {
         let offset = self.at;
         let number = self.u32()?;
         if number != value {
-            self.at = offset;
             return Err(Refusal::Unreadable { offset });
         }
         Ok(number)
@@ -128,16 +124,13 @@ impl<'a> Reader<'a> {
     pub(crate) fn status(&mut self) -> Result<Status, Refusal>
         ensures value { λ r. ⌜ answer-model status-number r ≡ permitted-at is-status (now (now (self .entry) .bytes)) (now (self .entry) .at) ⌝ }
         ensures bytes { λ _. ⌜ now (self .exit) .bytes ≡ now (self .entry) .bytes ⌝ }
-        ensures at { λ r. ⌜ now (self .exit) .at ≡ cond (isOk r) (now (self .entry) .at + 4) (now (self .entry) .at) ⌝ }
+        ensures at { λ r. ⌜ made r (λ _. now (self .exit) .at ≡ now (self .entry) .at + 4) ⌝ }
     {
         let offset = self.at;
         let number = self.u32()?;
         match Status::from_number(number) {
             Some(status) => Ok(status),
-            None => {
-                self.at = offset;
-                Err(Refusal::Unreadable { offset })
-            }
+            None => { Err(Refusal::Unreadable { offset }) }
         }
     }
 
@@ -146,20 +139,15 @@ impl<'a> Reader<'a> {
         ensures value { λ r. ⌜ answer-model lent r ≡ body-at longest (now (now (self .entry) .bytes)) (now (self .entry) .at) ⌝ }
         ensures short { λ r. ⌜ made r (λ b. length (b .now) ≤ longest) ⌝ }
         ensures bytes { λ _. ⌜ now (self .exit) .bytes ≡ now (self .entry) .bytes ⌝ }
-        ensures at { λ r. ⌜ now (self .exit) .at ≡ cond (isOk r) (now (self .entry) .at + 4 + padded (size-of r)) (now (self .entry) .at) ⌝ }
+        ensures at { λ r. ⌜ made r (λ b. now (self .exit) .at ≡ now (self .entry) .at + 4 + padded (length (b .now))) ⌝ }
     {
-        let start = self.at;
         let n = self.at_most(longest)? as usize;
         let at = self.at;
         let all = (n + 3) / 4 * 4;
         if self.left() < all {
-            self.at = start;
             return Err(Refusal::Unreadable { offset: at });
         }
-        if let Err(e) = zeros(self.bytes, at + n, all - n) {
-            self.at = start;
-            return Err(e);
-        }
+        zeros(self.bytes, at + n, all - n)?;
         self.at = at + all;
         let bytes = self.bytes;
         Ok(&bytes[at..at + n])
