@@ -40,5 +40,6 @@ asks-none b m v l short =
     never true true = refl
     never true false = refl
     never false y = refl
+
     removes : (t : Bool) → t ≡ false → cond t (remove (getD b 1 0)) unfit ≡ unfit
     removes t e = rw e

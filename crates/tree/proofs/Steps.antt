@@ -17,9 +17,9 @@ use Rattle.common.specs.Bytes.{Bytes}
 use Rattle.common.specs.Search.{lowest-at}
 use Rattle.tree.specs.Tree as tree
 use Rattle.tree.specs.Tree.{Node, Nodes, TreeAsk, first-nodes, node-at, is-there, is-folder, kind-of, parent-of, lies-in, is-named, other-named, is-empty, is-within, tree-ask, tree-status, tree-done, tree-after}
-use Rattle.tree.specs.Shape.{Beneath, itself, IsTree, reached, Stays-a-tree, Into-itself, Walk-decides}
+use Rattle.tree.specs.Shape.{Beneath, itself, IsTree, reached, Stays-a-tree, Finds-one, Into-itself, Walk-decides}
 use Rattle.tree.proofs.Walks.{there-below, walk-decides}
-use Rattle.tree.proofs.Shape.{folder-there, beneath-there, put-tree, rest-tree}
+use Rattle.tree.proofs.Shape.{folder-there, beneath-there, put-tree, rest-tree, finds-one}
 
 -- what a status of 0 says
 make-done : (a b c d : Bool) → _≡_ {A = ℕ} (cond a (cond b (cond c 4 (cond d 5 0)) 3) 2) 0 → (b ≡ true) × (c ≡ false) × (d ≡ false)
@@ -47,7 +47,6 @@ move-done false a′ b c d w e = absurd (omega arith)
 none-there : (t : Bool) → cond t false true ≡ true → t ≡ false
 none-there true e = sym e
 none-there false e = refl
-
 
 module _ (ns : Nodes) (size : length ns ≡ 64) (t : IsTree ns) where
   root-there : is-there ns 0 ≡ true
@@ -140,3 +139,7 @@ into-itself ns decides node parent name f ne g b free =
     let there′ = folder-there ns parent g in
     let met = decides node parent .1 b in
     rw (there, there′, g, free, ne-eqb node 0 ne, met)
+
+-- in a content reached only one node has the name
+pub found-only : (ns : Nodes) (bodies : List Bytes) → ns ≡ reached bodies → Finds-one ns
+found-only ns bodies e = subst Finds-one (sym e) (finds-one (reached bodies) (stays-a-tree bodies))

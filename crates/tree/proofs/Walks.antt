@@ -78,9 +78,9 @@ module _ (ns : Nodes) (top : ℕ) where
   deep (suc k) i met less = go (deep k (parent-of (node-at ns i))) (walked (suc k) i met)
     where
       go :
-        (is-within (suc k) ns top (parent-of (node-at ns i)) ≡ true → is-within k ns top (parent-of (node-at ns i)) ≡ false → k < count (is-within (suc k) ns top) (length ns))
-        → (is-there ns i ≡ true) × ((eqb i top ≡ true) ⊎ ((eqb i top ≡ false) × (is-within (suc k) ns top (parent-of (node-at ns i)) ≡ true)))
-        → suc k < count (is-within (suc (suc k)) ns top) (length ns)
+          (is-within (suc k) ns top (parent-of (node-at ns i)) ≡ true → is-within k ns top (parent-of (node-at ns i)) ≡ false → k < count (is-within (suc k) ns top) (length ns))
+          → (is-there ns i ≡ true) × ((eqb i top ≡ true) ⊎ ((eqb i top ≡ false) × (is-within (suc k) ns top (parent-of (node-at ns i)) ≡ true)))
+          → suc k < count (is-within (suc (suc k)) ns top) (length ns)
       go rest (there, inl e) = absurd (clash (sym less ∙ walk-met ns top i k there e))
       go rest (there, inr (e, up)) =
           omega (arith, rest up (sym (walk-up ns top i k there e) ∙ less), count-more (is-within (suc k) ns top) (is-within (suc (suc k)) ns top) (length ns) (within-more (suc k)) i (there-below ns i there) less met)

@@ -9,10 +9,24 @@ use crate::nodes::NodeId;
 /// What a body asks of the tree.
 #[derive(Clone, Copy)]
 pub enum Ask {
-    Make { parent: NodeId, node: NodeId, kind: Kind, name: Name },
-    Remove { node: NodeId },
-    Move { node: NodeId, parent: NodeId, name: Name },
-    Look { parent: NodeId, name: Name },
+    Make {
+        parent: NodeId,
+        node: NodeId,
+        kind: Kind,
+        name: Name,
+    },
+    Remove {
+        node: NodeId,
+    },
+    Move {
+        node: NodeId,
+        parent: NodeId,
+        name: Name,
+    },
+    Look {
+        parent: NodeId,
+        name: Name,
+    },
 }
 
 fn make(parent: u8, node: u8, kind: u8, name: &[u8]) -> Option<Ask>
@@ -29,7 +43,9 @@ fn make(parent: u8, node: u8, kind: u8, name: &[u8]) -> Option<Ask>
 fn remove(node: u8) -> Option<Ask>
     ensures { λ r. ⌜ ask-model r ≡ cond (is-node node) (remove node) unfit ⌝ }
 {
-    Some(Ask::Remove { node: NodeId::read(node)? })
+    Some(Ask::Remove {
+        node: NodeId::read(node)?,
+    })
 }
 
 fn move_to(node: u8, parent: u8, name: &[u8]) -> Option<Ask>

@@ -3,13 +3,15 @@ mod body;
 mod nodes;
 mod reached;
 mod reply;
+#[cfg(test)]
+mod tests;
 
 pub use body::Ask;
 pub use nodes::Kind;
 pub use nodes::Name;
 pub use nodes::NodeId;
 pub use nodes::Tree;
-pub use nodes::steps::TreeService;
+pub use nodes::TreeService;
 pub use reached::stays_a_tree;
 pub use reply::Answer;
 pub use reply::Refused;

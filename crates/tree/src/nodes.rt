@@ -1,11 +1,14 @@
 ghost use mathlib.Core.Path.{_≡_};
 ghost use Prim.Native.Nat.{_≤_};
 ghost use lib.ListN.{length};
+
 mod ids;
 mod names;
 mod places;
 mod reads;
-pub mod steps;
+mod steps;
+
+pub use steps::TreeService;
 
 /// The number of a node, 0 to 63.
 #[derive(Clone, Copy)]

@@ -5,8 +5,8 @@ use crate::nodes::Kind;
 use crate::nodes::NodeId;
 
 impl NodeId {
-    /// The root folder.
-    pub fn root() -> NodeId
+    // The root folder.
+    pub(crate) fn root() -> NodeId
         ensures { λ r. ⌜ id-number r ≡ 0 ⌝ }
     {
         NodeId { number: 0 }
@@ -16,7 +16,11 @@ impl NodeId {
     pub fn read(number: u8) -> Option<NodeId>
         ensures { λ r. ⌜ read-id r ≡ id-read number ⌝ }
     {
-        if number < 64 { Some(NodeId { number }) } else { None }
+        if number < 64 {
+            Some(NodeId { number })
+        } else {
+            None
+        }
     }
 
     pub fn number(self) -> u8
@@ -25,7 +29,7 @@ impl NodeId {
         self.number
     }
 
-    pub fn is(self, other: NodeId) -> bool
+    pub(crate) fn is(self, other: NodeId) -> bool
         ensures { λ r. ⌜ r ≡ eqb (id-number self) (id-number other) ⌝ }
     {
         self.number == other.number
@@ -53,7 +57,7 @@ impl Kind {
         }
     }
 
-    pub fn is_folder(self) -> bool
+    pub(crate) fn is_folder(self) -> bool
         ensures { λ r. ⌜ r ≡ eqb (kind-letter self) 100 ⌝ }
     {
         match self {

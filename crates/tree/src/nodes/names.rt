@@ -35,7 +35,7 @@ fn same(a: &[u8], b: &[u8]) -> bool
 }
 
 impl Name {
-    /// The root's name.
+    // The root's name.
     pub(crate) fn empty() -> Name
         ensures { λ r. ⌜ name-bytes r ≡ [] ⌝ }
     {
@@ -72,7 +72,7 @@ impl Name {
         &self.bytes[0..self.len]
     }
 
-    pub fn is(&self, other: &Name) -> bool
+    pub(crate) fn is(&self, other: &Name) -> bool
         ensures { λ r. ⌜ r ≡ sameBytes (name-bytes (now (self .entry))) (name-bytes (now (other .entry))) ⌝ }
     {
         same(self.as_bytes(), other.as_bytes())

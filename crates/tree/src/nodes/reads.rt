@@ -1,9 +1,14 @@
 ghost use mathlib.Core.Path.{_≡_};
 ghost use mathlib.Core.Bool.{true};
+ghost use mathlib.Core.List.{List};
+ghost use Prim.Native.Nat.{ℕ};
 ghost use lib.ListN.{set};
 ghost use Rattle.std.specs.declared.option.Option.the-variants.{Some, None};
 ghost use Rattle.std.specs.Options.{isSome, Cases};
-ghost use Rattle.tree.specs.Tree.{first-nodes, node-at, kind-of, is-there, is-folder, named, other-named, is-empty, is-within};
+ghost use Rattle.std.specs.Orderings.{Decides};
+ghost use Rattle.common.specs.Bytes.{Bytes};
+ghost use Rattle.tree.specs.Shape.{Beneath, reached};
+ghost use Rattle.tree.specs.Tree.{first-nodes, node-at, kind-of, is-there, is-folder, is-named, named, other-named, is-empty, is-within};
 ghost use Rattle.tree.specs.Forms.{id-number, kind-letter, name-bytes, read-id};
 ghost use Rattle.tree.specs.Contents.{place-model, nodes-of, node-of};
 use crate::nodes::Kind;
@@ -120,5 +125,20 @@ impl Tree {
             next = found.parent;
         }
         false
+    }
+
+    /// The node that has a name in a folder; in a tree that bodies led to it is the only one.
+    pub fn find(&self, folder: NodeId, name: Name) -> Option<NodeId>
+        ensures value { λ r. ⌜ read-id r ≡ named (nodes-of (now (self .entry))) (id-number folder) (name-bytes name) ⌝ }
+        ensures only { λ r. ⌜ ((bodies : List Bytes) → nodes-of (now (self .entry)) ≡ reached bodies → (i : ℕ) → is-named (id-number folder) (name-bytes name) (node-at (nodes-of (now (self .entry))) i) ≡ true → read-id r ≡ Some i) ⌝ }
+    {
+        self.named(folder, name)
+    }
+
+    /// Whether the node is `top` or lies beneath it, however far down.
+    pub fn lies_beneath(&self, top: NodeId, node: NodeId) -> bool
+        ensures { λ r. ⌜ Decides r (Beneath (nodes-of (now (self .entry))) (id-number top) (id-number node)) ⌝ }
+    {
+        self.is_within(top, node)
     }
 }

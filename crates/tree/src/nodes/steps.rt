@@ -18,7 +18,13 @@ use service::Service;
 
 // The tests stand in the order of their statuses.
 impl Tree {
-    fn judge_make(&self, parent: NodeId, node: NodeId, kind: Kind, name: Name) -> Result<(), Refused>
+    fn judge_make(
+        &self,
+        parent: NodeId,
+        node: NodeId,
+        kind: Kind,
+        name: Name,
+    ) -> Result<(), Refused>
         ensures { λ r. ⌜ judged-status r ≡ tree-status (nodes-of (now (self .entry))) (make (id-number parent) (id-number node) (kind-letter kind) (name-bytes name)) ⌝ }
     {
         if !self.is_there(parent) {
@@ -72,7 +78,13 @@ impl Tree {
         Ok(())
     }
 
-    fn make(&mut self, parent: NodeId, node: NodeId, kind: Kind, name: Name) -> Result<Answer, Refused>
+    fn make(
+        &mut self,
+        parent: NodeId,
+        node: NodeId,
+        kind: Kind,
+        name: Name,
+    ) -> Result<Answer, Refused>
         ensures reply { λ r. ⌜ done-bytes r ≡ tree-answer (nodes-of (now (self .entry))) (make (id-number parent) (id-number node) (kind-letter kind) (name-bytes name)) ⌝ }
         ensures nodes { λ _. ⌜ nodes-of (now (self .exit)) ≡ tree-after (nodes-of (now (self .entry))) (make (id-number parent) (id-number node) (kind-letter kind) (name-bytes name)) ⌝ }
     {
