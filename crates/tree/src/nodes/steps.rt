@@ -18,14 +18,9 @@ use service::Service;
 
 // The tests stand in the order of their statuses.
 impl Tree {
-    fn judge_make(
-        &self,
-        parent: NodeId,
-        node: NodeId,
-        kind: Kind,
-        name: Name,
-    ) -> Result<(), Refused>
-        ensures { λ r. ⌜ judged-status r ≡ tree-status (nodes-of (now (self .entry))) (make (id-number parent) (id-number node) (kind-letter kind) (name-bytes name)) ⌝ }
+    // A folder and a card are judged alike.
+    fn judge_make(&self, parent: NodeId, node: NodeId, name: Name) -> Result<(), Refused>
+        ensures { λ r. ⌜ judged-status r ≡ tree-status (nodes-of (now (self .entry))) (make (id-number parent) (id-number node) 100 (name-bytes name)) ⌝ }
     {
         if !self.is_there(parent) {
             return Err(Refused::Absent);
@@ -88,7 +83,7 @@ impl Tree {
         ensures reply { λ r. ⌜ done-bytes r ≡ tree-answer (nodes-of (now (self .entry))) (make (id-number parent) (id-number node) (kind-letter kind) (name-bytes name)) ⌝ }
         ensures nodes { λ _. ⌜ nodes-of (now (self .exit)) ≡ tree-after (nodes-of (now (self .entry))) (make (id-number parent) (id-number node) (kind-letter kind) (name-bytes name)) ⌝ }
     {
-        self.judge_make(parent, node, kind, name)?;
+        self.judge_make(parent, node, name)?;
         self.put(parent, node, kind, name);
         Ok(Answer::Done)
     }
