@@ -1,10 +1,8 @@
 -- Each step leaves a tree.
 use mathlib.Core.Path.{_≡_, refl, sym, ap, subst, _∙_}
-use mathlib.Core.Bool.{Bool, true, false, cond, _&&_}
-use mathlib.Core.List.{List, [], _∷_}
+use mathlib.Core.Bool.{true, false}
 use mathlib.Core.Logic.{_⊎_, inl, inr}
-use Prim.Native.Nat.{ℕ, _<_, _≤_}
-use native.Mathlib.Omega.{arith}
+use Prim.Native.Nat.{ℕ, _<_}
 use borrow.Author.Tests.{clash}
 use lib.Dec.{eqb}
 use lib.ListN.{length, set}
@@ -17,10 +15,9 @@ use Rattle.std.proofs.shelf.Lists.{getD-set-same, getD-set-other}
 use Rattle.std.proofs.shelf.Tests.{cases-eq, eqb-true, eqb-false, and-parts}
 use Rattle.common.specs.Bytes.{Bytes}
 use Rattle.common.specs.Search.{lowest-at}
-use Rattle.tree.specs.Tree.{Node, Nodes, node-at, is-there, is-folder, kind-of, parent-of, lies-in, is-named, named, other-named, is-empty}
+use Rattle.tree.specs.Tree.{Node, Nodes, node-at, is-there, is-folder, kind-of, parent-of, lies-in, is-named, named, other-named}
 use Rattle.tree.specs.Shape.{Beneath, itself, deeper, IsTree, Finds-one}
 use Rattle.tree.proofs.Names.{lowest-none, lowest-some, found-named}
-use Rattle.tree.proofs.Walks.{there-below}
 
 -- a folder is there
 kind-there : (o : Option Node) → eqb (kind-of o) 100 ≡ true → isSome o ≡ true

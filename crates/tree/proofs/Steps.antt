@@ -12,12 +12,12 @@ use Rattle.std.specs.Options.{isSome}
 use Rattle.std.specs.declared.option.Option.{Option}
 use Rattle.std.specs.declared.option.Option.the-variants.{Some, None}
 use Rattle.std.proofs.shelf.Lists.{set-past}
-use Rattle.std.proofs.shelf.Tests.{cases-lt, eqb-true, eqb-false, eq-eqb, ne-eqb, and-parts}
+use Rattle.std.proofs.shelf.Tests.{cases-lt, eqb-true, eqb-false, ne-eqb}
 use Rattle.common.specs.Bytes.{Bytes}
 use Rattle.common.specs.Search.{lowest-at}
 use Rattle.tree.specs.Tree as tree
-use Rattle.tree.specs.Tree.{Node, Nodes, TreeAsk, first-nodes, node-at, is-there, is-folder, kind-of, parent-of, lies-in, is-named, other-named, is-empty, is-within, tree-ask, tree-status, tree-done, tree-after}
-use Rattle.tree.specs.Shape.{Beneath, itself, IsTree, reached, Stays-a-tree, Finds-one, Into-itself, Walk-decides}
+use Rattle.tree.specs.Tree.{Node, Nodes, TreeAsk, first-nodes, node-at, is-there, is-folder, kind-of, lies-in, is-named, other-named, is-empty, is-within, tree-ask, tree-status, tree-done, tree-after}
+use Rattle.tree.specs.Shape.{itself, IsTree, reached, Stays-a-tree, Finds-one, Into-itself, Walk-decides}
 use Rattle.tree.proofs.Walks.{there-below, walk-decides}
 use Rattle.tree.proofs.Shape.{folder-there, beneath-there, put-tree, rest-tree, finds-one}
 

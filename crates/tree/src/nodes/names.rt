@@ -1,12 +1,11 @@
 ghost use mathlib.Core.Path.{_≡_};
-ghost use mathlib.Core.Bool.{Bool};
 ghost use mathlib.Core.List.{[]};
 ghost use Prim.Native.Nat.{_≤_};
 ghost use lib.Dec.{eqb};
 ghost use lib.ListN.{length};
 ghost use Rattle.std.specs.shelf.Lists.{leading};
 ghost use Rattle.std.specs.shelf.Text.{sameBytes};
-ghost use Rattle.tree.specs.Tree.{is-graphic, is-name};
+ghost use Rattle.tree.specs.Tree.{is-graphic};
 ghost use Rattle.tree.specs.Forms.{name-bytes, name-read, read-name};
 use crate::nodes::Name;
 

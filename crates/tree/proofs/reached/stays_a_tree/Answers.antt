@@ -1,6 +1,4 @@
-use Prim.Native.Nat.{_≤_}
 use native.Mathlib.Omega.{arith}
-use lib.ListN.{length}
 use mathlib.Core.List.{List}
 use Rattle.common.specs.Bytes.{Bytes}
 use Rattle.tree.specs.Shape.{reached, Walk-decides}

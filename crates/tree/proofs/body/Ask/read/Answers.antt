@@ -1,6 +1,5 @@
 use mathlib.Core.Path.{_≡_, _∙_}
-use lib.ListN.{length, getD}
-use native.Mathlib.Omega.{arith}
+use lib.ListN.{getD}
 use borrow.Author.Needs.{needs}
 use Rattle.tree.proofs.Bodies.{asks-make, asks-move, asks-look, asks-none}
 use Rattle.tree.proofs.body.Ask.read.Needs as need

@@ -1,12 +1,11 @@
 use mathlib.Core.Path.{_≡_, sym, ap, _∙_}
-use mathlib.Core.Bool.{Bool}
-use Prim.Native.Nat.{ℕ, suc, _+_, _-_, _≤_}
+use Prim.Native.Nat.{suc, _+_, _-_, _≤_}
 use native.Mathlib.Omega.{arith}
 use lib.ListN.{length}
 use Rattle.std.specs.Options.{isSome}
 use Rattle.std.proofs.shelf.Lists.{length-map}
 use Rattle.tree.specs.Tree as tree
-use Rattle.tree.specs.Tree.{is-within, node-at, parent-of}
+use Rattle.tree.specs.Tree.{is-within, parent-of}
 use Rattle.tree.specs.Forms.{id-number}
 use Rattle.tree.specs.Contents.{place-model, nodes-of, parent-number}
 use Rattle.tree.proofs.Walks.{walk-none, walk-absent, walk-met, walk-up, none-past}

@@ -1,4 +1,4 @@
-use mathlib.Core.Path.{_≡_, sym, _∙_}
+use mathlib.Core.Path.{_≡_}
 use borrow.Author.Needs.{needs}
 use Rattle.tree.specs.Tree.{named}
 use Rattle.tree.specs.Forms.{id-number, name-bytes, read-id}
