@@ -101,25 +101,17 @@ fn tell(
 fn main(rt: LibcRuntime) -> Result<(), Fault> {
     let mut ledger = opening_book();
     print_book(&rt, "The book before:", &ledger)?;
-    tell(
-        &rt,
-        &mut ledger,
-        Withdrawal {
-            bin: Bin::Salt,
-            grams: 150,
-        },
-        1,
-    )?;
+    let some = Withdrawal {
+        bin: Bin::Salt,
+        grams: 150,
+    };
+    tell(&rt, &mut ledger, some, 1)?;
     print_book(&rt, "The book after:", &ledger)?;
-    tell(
-        &rt,
-        &mut ledger,
-        Withdrawal {
-            bin: Bin::Salt,
-            grams: 2_000,
-        },
-        2,
-    )?;
+    let too_much = Withdrawal {
+        bin: Bin::Salt,
+        grams: 2_000,
+    };
+    tell(&rt, &mut ledger, too_much, 2)?;
     print_book(&rt, "The book, unchanged:", &ledger)?;
     Ok(())
 }
