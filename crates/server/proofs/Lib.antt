@@ -1,3 +1,5 @@
 pub mod Slots
 pub mod Trays
 pub mod Found
+pub mod Changes
+pub mod Runs

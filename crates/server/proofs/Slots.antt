@@ -4,20 +4,20 @@ use mathlib.Core.List.{List, [], _∷_, map}
 use mathlib.Core.Bool.{Bool, true, false, cond}
 use Prim.Native.Nat.{ℕ, _+_, _<_, _≤_}
 use native.Mathlib.Omega.{arith}
-use lib.Dec.{ltb}
+use lib.Dec.{eqb, ltb}
 use lib.ListN.{length, getD, set, take}
 use Rattle.std.specs.Options.{isSome}
 use Rattle.std.specs.declared.option.Option.{Option}
 use Rattle.std.specs.declared.option.Option.the-variants.{Some, None}
 use Rattle.common.specs.Search.{when-found}
-use Rattle.std.proofs.shelf.Lists.{getD-map, getD-read}
+use Rattle.std.proofs.shelf.Lists.{getD-map, getD-read, length-take-le}
 use Rattle.std.proofs.shelf.Tests.{cond-false, le-ltb, ltb-false}
 use Rattle.common.specs.Bytes.{Bytes}
 use Rattle.wire.specs.Wire.{Request}
 use Rattle.server.specs.declared.records.Tray.{Tray}
 use Rattle.server.specs.declared.records.Slot.{Slot}
 use Rattle.server.specs.declared.records.Session.{Session}
-use Rattle.server.specs.Server.{Last, never, in-progress, kept, not-kept, Verdict, refuse, new, SlotM, SessionM, ServerM, new-slot, with-open, is-repeat, is-new, is-same, judge-last, judge-repeat, bad-highest, judge, verdict, slot-at}
+use Rattle.server.specs.Server.{Last, never, in-progress, kept, not-kept, Verdict, refuse, new, SlotM, SessionM, ServerM, new-slot, with-open, is-repeat, is-new, is-same, judge-last, judge-repeat, bad-highest, judge, verdict, slot-at, is-bare}
 use Rattle.server.specs.declared.records.Last.{Last as CodeLast}
 use Rattle.server.specs.declared.records.Last.the-variants.{Never, InProgress, Kept, NotKept}
 use Rattle.server.specs.Places.{emptied, emptied-last, session-at, verdict-at}
@@ -100,3 +100,7 @@ new-at m place q e = go (session-at m place) e
     go (Some r) e =
         let h = new-in r q e in
         (refl, h .0, λ s k. (let f : s ≡ r = cc in ap (λ (t : SessionM). slot-at t (q .slot) .is-open) f ∙ h .1))
+
+-- a call is bare if the length that the slot has is 0
+pub bare-is : (x : Slot) (t : Tray) → is-bare (slot-model t x) ≡ eqb (x .asked) 0
+bare-is x t = ap (λ n. eqb n 0) (length-take-le (x .asked) (t .request) (omega (arith, x .fits, t .whole)))

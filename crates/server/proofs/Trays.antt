@@ -322,3 +322,21 @@ stored ts os ss p i s s′ x x′ t d f hs hx st slots st′ id target m l tray 
         go : (b : Bool) → y .live ≡ b → slot-in (set ts (x .tray) t) y ≡ slot-in ts y
         go false k = same-shut y (getD (set ts (x .tray) t) (y .tray) no-tray) (getD ts (y .tray) no-tray) k
         go true k = ap (λ u. slot-model u y) (getD-set-other ts (x .tray) (y .tray) t no-tray (apart ss p i s s′ x x′ hs hx st slots st′ os m l j n r y hr st-r hy ne k))
+
+-- the session of the model at a place, from the one that the code has there
+module _ (ts : List Tray) (ss : List Session) (p : ℕ) (s : Session) (m : SessionM) (hs : nth ss p ≡ Some s) (e : getD (map (session-model ts) ss) p None ≡ Some m) where
+  pub session-is : (s .standing ≡ true) × (m ≡ standing-model ts s)
+  session-is = go (s .standing) refl (sym (session-here ts ss p s hs) ∙ e)
+    where
+      go : (b : Bool) → s .standing ≡ b → cond b (Some (standing-model ts s)) None ≡ Some m → (s .standing ≡ true) × (m ≡ standing-model ts s)
+      go true h k = let q : m ≡ standing-model ts s = cc in (h, q)
+      go false h k = absurd (let z : _≡_ {A = ℕ} 0 1 = cc in omega arith)
+
+  pub slot-is : (i : ℕ) (x : Slot) → nth (s .slots) i ≡ Some x → slot-at m i ≡ slot-in ts x
+  slot-is i x hx =
+      ap (λ (n : SessionM). slot-at n i) (session-is .1)
+      ∙ getD-map (slot-in ts) (s .slots) i x new-slot (nth-within (s .slots) i x hx)
+      ∙ ap (slot-in ts) (nth-is (s .slots) i x x hx)
+
+  pub target-is : m .target ≡ s .target
+  target-is = ap (λ (n : SessionM). n .target) (session-is .1)

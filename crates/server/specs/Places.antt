@@ -1,6 +1,6 @@
 -- Smaller steps, at one slot or at one place, that the server's calls are made of.
 use mathlib.Core.List.{List, []}
-use mathlib.Core.Bool.{true, false, cond, not}
+use mathlib.Core.Bool.{Bool, true, false, cond, not}
 use Prim.Native.Nat.{ℕ}
 use lib.ListN.{getD, set, take}
 use Rattle.std.specs.Options.{mapped}
@@ -10,8 +10,8 @@ use Rattle.std.specs.declared.option.Option.the-variants.{Some, None}
 use Rattle.common.specs.Bytes.{Bytes}
 use Rattle.common.specs.Search.{when-found}
 use Rattle.wire.specs.Wire.{Request}
-use Rattle.slots.specs.Slots.{front-changed}
-use Rattle.server.specs.Server.{Last, never, in-progress, kept, not-kept, SlotM, SessionM, ServerM, Verdict, refuse, is-kept, slot-at, with-slot, verdict}
+use Rattle.slots.specs.Slots.{highest-at, front-changed}
+use Rattle.server.specs.Server.{Last, never, in-progress, kept, not-kept, SlotM, SessionM, ServerM, Verdict, refuse, is-kept, slot-at, with-slot, with-open, verdict, works-at, is-bare, run-open}
 
 -- a slot once its call has run and gave those bytes
 abbrev pub concluded : SlotM → ℕ → ℕ → Bytes → SlotM
@@ -66,3 +66,23 @@ shut-at m place i = when-found 0 (λ s. cond (slot-at s i .is-open) 0 1) (sessio
 -- what the session at a place says of a request
 abbrev pub verdict-at : ServerM → ℕ → Request → Verdict
 verdict-at m place q = when-found (refuse 10052) (λ s. verdict s q) (session-at m place)
+
+-- a call is in progress at slot i of the session at a place
+abbrev pub works-in : ServerM → ℕ → ℕ → Bool
+works-in m place i = when-found false (λ s. works-at s i) (session-at m place)
+
+-- the last call at slot i of the session at a place is bare
+abbrev pub bare-in : ServerM → ℕ → ℕ → Bool
+bare-in m place i = when-found false (λ s. is-bare (slot-at s i)) (session-at m place)
+
+-- or has a body
+abbrev pub asks-in : ServerM → ℕ → ℕ → Bool
+asks-in m place i = when-found false (λ s. not (is-bare (slot-at s i))) (session-at m place)
+
+-- a session whose slot i is shut, if the bare call there shuts it when it runs
+abbrev pub settled : ℕ → SessionM → SessionM
+settled i s = with-slot s i (with-open (run-open s i) (slot-at s i))
+
+-- a session whose call at slot i has run and gave those bytes
+abbrev pub ended : ℕ → Bytes → SessionM → SessionM
+ended i bytes s = with-slot s i (concluded (slot-at s i) (highest-at (λ (x : SlotM). x .is-open) (s .slots) 0 0) (s .target) bytes)

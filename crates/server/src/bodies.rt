@@ -82,6 +82,15 @@ impl Tray {
         }
     }
 
+    // What the service replies to the request body of that length.
+    pub(crate) fn asked_of<S: Service>(&self, len: usize, service: &mut S) -> Body
+        requires { ⌜ len ≤ 256 ⌝ }
+        ensures content { λ _. ⌜ S·Service .content (now (service .exit)) ≡ S·Service .model .next (S·Service .content (now (service .entry))) (take len (now (self .entry) .request)) ⌝ }
+        ensures reply { λ r. ⌜ held r ≡ S·Service .model .reply (S·Service .content (now (service .entry))) (take len (now (self .entry) .request)) ⌝ }
+    {
+        Body::replied(service, &self.request[0..len])
+    }
+
     pub(crate) fn put_request(&mut self, body: &[u8])
         requires { ⌜ length (now body) ≤ 256 ⌝ }
         ensures request { λ _. ⌜ take (length (now (body .entry))) (now (self .exit) .request) ≡ now (body .entry) ⌝ }

@@ -5,7 +5,7 @@ ghost use Prim.Native.Nat.{ℕ, _≤_, _<_};
 ghost use lib.Dec.{eqb, ltb};
 ghost use lib.ListN.{length, take};
 ghost use Rattle.wire.specs.Models.{request-model};
-ghost use Rattle.server.specs.Server.{is-working, is-same, judge-last, judge-repeat, is-repeat, is-new, judge-new, bad-highest, judge, accepted, with-open};
+ghost use Rattle.server.specs.Server.{is-working, is-same, judge-last, judge-repeat, is-repeat, is-new, is-bare, judge-new, bad-highest, judge, accepted, with-open};
 ghost use Rattle.server.specs.Models.{held, last-model, slot-model, verdict-model};
 ghost use Rattle.server.specs.Places.{concluded, emptied};
 use crate::answers::Outcome;
@@ -132,6 +132,19 @@ impl Slot {
         self.keep = request.keep;
         self.asked = request.body.len();
         self.last = Last::InProgress;
+    }
+
+    pub(crate) fn is_bare(&self) -> bool
+        ensures { λ r. ⌜ ((t : Tray) → r ≡ is-bare (slot-model t (now (self .entry)))) ⌝ }
+    {
+        self.asked == 0
+    }
+
+    // Whether this slot, number `slot`, is open and its call shuts it when it runs.
+    pub(crate) fn shuts(&self, slot: usize, target: u32) -> bool
+        ensures { λ r. ⌜ ((t : Tray) → r ≡ (now (self .entry) .live && (is-bare (slot-model t (now (self .entry))) && (ltb (now (self .entry) .highest) slot && ltb target slot)))) ⌝ }
+    {
+        self.live && self.is_bare() && (self.highest as usize) < slot && (target as usize) < slot
     }
 
     // The call without a body has run.

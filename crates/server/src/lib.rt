@@ -4,5 +4,6 @@ mod bodies;
 mod judging;
 mod places;
 pub mod records;
+mod running;
 mod sessions;
 pub mod state;

@@ -127,6 +127,30 @@ impl Server {
         claim(&mut self.sessions, &mut self.owners, place, slot);
     }
 
+    // Opens each of the first slots that is shut.
+    pub(crate) fn open_slots(&mut self, place: usize, count: usize)
+        requires within { ⌜ place < 8 ⌝ }
+        requires few { ⌜ count ≤ 16 ⌝ }
+        requires stands { ⌜ isSome (session-at (model (now self)) place) ≡ true ⌝ }
+        requires room { ⌜ shut-below (model (now self)) place count ≤ free-trays (model (now self)) ⌝ }
+        ensures { λ _. ⌜ model (now (self .exit)) ≡ change-at (model (now (self .entry))) place (at-front (with-open true) count) ⌝ }
+    {
+        for i in 0..count {
+            self.open_slot(place, i);
+        }
+    }
+
+    // Shuts every slot and frees its tray.
+    pub(crate) fn free_slots(&mut self, place: usize)
+        requires within { ⌜ place < 8 ⌝ }
+        requires stands { ⌜ isSome (session-at (model (now self)) place) ≡ true ⌝ }
+        ensures { λ _. ⌜ model (now (self .exit)) ≡ change-at (model (now (self .entry))) place (at-front emptied 16) ⌝ }
+    {
+        for i in 0..SLOTS {
+            self.free_slot(place, i);
+        }
+    }
+
     // A new call is in progress.
     pub(crate) fn accept_at(&mut self, place: usize, request: Request<'_>)
         requires within { ⌜ place < 8 ⌝ }
