@@ -3,3 +3,4 @@ pub mod Trays
 pub mod Found
 pub mod Changes
 pub mod Runs
+pub mod Opened

@@ -4,6 +4,7 @@ use mathlib.Core.List.{List, [], _∷_, map}
 use mathlib.Core.Bool.{Bool, true, false, cond, not, _&&_}
 use Prim.Native.Nat.{ℕ, _+_, _<_, _≤_}
 use native.Mathlib.Omega.{arith}
+use borrow.Author.Tests.{clash}
 use lib.Dec.{eqb, ltb}
 use lib.ListN.{length, getD, set}
 use Rattle.std.specs.Options.{isSome, mapped}
@@ -105,3 +106,14 @@ run-state m m′ n p i bytes h k e g =
 pub end-state : (m n : ServerM) (p i high target : ℕ) (bytes : Bytes) → ((s : SessionM) → session-at m p ≡ Some s → (high ≡ highest-at (λ (x : SlotM). x .is-open) (s .slots) 0 0) × (target ≡ s .target)) → n ≡ change-at m p (at-slot (λ x. concluded x high target bytes) i) → n ≡ change-at m p (ended i bytes)
 end-state m n p i high target bytes k e =
     e ∙ ap (with-places m) (change-same (m .sessions) p (at-slot (λ x. concluded x high target bytes) i) (ended i bytes) (λ s r. (λ u. with-slot s i (concluded (slot-at s i) (k s r .0 u) (k s r .1 u) bytes))))
+
+-- the session at a place where one stands
+pub session-there : (v : Server) (p : ℕ) (d : Session) → p < 8 → isSome (session-at (model v) p) ≡ true → session-at (model v) p ≡ Some (standing-model (v .trays) (getD (v .sessions) p d))
+session-there v p d low some =
+    let hs = nth-getD (v .sessions) p d (omega (arith, v .whole)) in
+    session-here (v .trays) (v .sessions) p (getD (v .sessions) p d) hs ∙ cond-true _ _ _ (stands-here (v .trays) (v .sessions) p (getD (v .sessions) p d) hs some)
+
+-- some session
+pub some-of : (o : Option SessionM) → isSome o ≡ true → (s : SessionM) × (o ≡ Some s)
+some-of None e = absurd (clash e)
+some-of (Some s) e = (s, refl)

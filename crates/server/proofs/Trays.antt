@@ -6,7 +6,7 @@ use mathlib.Core.Logic.{_⊎_, inl, inr, ⊎-elim}
 use Prim.Native.Nat.{ℕ, zero, suc, _+_, _-_, _<_, _≤_}
 use native.Mathlib.Omega.{arith}
 use borrow.Author.Tests.{clash}
-use lib.ListN.{length, getD, set, take}
+use lib.ListN.{length, getD, set, replicate}
 use Rattle.std.specs.Options.{isSome, mapped}
 use Rattle.std.specs.shelf.Lists.{countBy, sumBy}
 use Rattle.std.specs.shelf.Maps.{nth}
@@ -99,6 +99,19 @@ pub sum-map-is : {X Y : Type 0} (f : Y → ℕ) (g : X → Y) (xs : List X) → 
 sum-map-is f g [] = refl
 sum-map-is f g (x ∷ xs) = sumBy-cons f (g x) (map g xs) ∙ ap (λ n. f (g x) + n) (sum-map-is f g xs) ∙ sym (sumBy-cons (λ y. f (g y)) x xs)
 
+-- a list of one thing
+pub count-none : {X : Type 0} (test : X → Bool) (x : X) (n : ℕ) → test x ≡ false → countBy test (replicate n x) ≡ 0
+count-none test x zero e = refl
+count-none test x (suc n) e =
+    let a : one (test x) ≡ 0 = ap one e in
+    let b : countBy test (replicate n x) ≡ 0 = count-none test x n e in
+    sumBy-cons (λ y. one (test y)) x (replicate n x) ∙ omega (arith, a, b)
+
+pub held-none : (x : Slot) (n i : ℕ) → tray-held x ≡ None → when-found None tray-held (nth (replicate n x) i) ≡ None
+held-none x zero i e = refl
+held-none x (suc n) zero e = e
+held-none x (suc n) (suc i) e = held-none x n i e
+
 -- slot i of the session s at place p changes from x to x′
 module _ (ss : List Session) (p i : ℕ) (s s′ : Session) (x x′ : Slot) (hs : nth ss p ≡ Some s) (hx : nth (s .slots) i ≡ Some x) (st : s .standing ≡ true) (slots : s′ .slots ≡ set (s .slots) i x′) (st′ : s′ .standing ≡ s .standing) where
   -- a slot's tray afterwards is the tray of this slot, or was that slot's tray before
@@ -127,25 +140,25 @@ module _ (ss : List Session) (p i : ℕ) (s s′ : Session) (x x′ : Slot) (hs 
   marked-freed os m l l′ j n k e = ⊎-elim
       (λ h. absurd (let a : None ≡ Some k = sym (cond-false (x′ .live) (Some (x′ .tray)) None l′) ∙ h .2 in let z : _≡_ {A = ℕ} 0 1 = cc in omega arith))
       (λ h. let o = m j n k (h .1) in
-        let o′ : getD os (x .tray) None ≡ Some (owner p i) = m p i (x .tray) (was ∙ cond-true _ _ _ l) in
-        let apart : k ≡ x .tray → ⊥ = λ q. (let w : Some (owner j n) ≡ Some (owner p i) = sym o ∙ ap (λ t. getD os t None) q ∙ o′ in let v : owner j n ≡ owner p i = cc in h .0 (ap (λ (u : Owner). u .place) v) (ap (λ (u : Owner). u .slot) v)) in
-        getD-set-other os (x .tray) k None None apart ∙ o)
+      let o′ : getD os (x .tray) None ≡ Some (owner p i) = m p i (x .tray) (was ∙ cond-true _ _ _ l) in
+      let apart : k ≡ x .tray → ⊥ = λ q. (let w : Some (owner j n) ≡ Some (owner p i) = sym o ∙ ap (λ t. getD os t None) q ∙ o′ in let v : owner j n ≡ owner p i = cc in h .0 (ap (λ (u : Owner). u .place) v) (ap (λ (u : Owner). u .slot) v)) in
+      getD-set-other os (x .tray) k None None apart ∙ o)
       (moved j n k e)
 
   pub marked-opened : (os : List (Option Owner)) → Marked ss os → x′ .live ≡ true → x′ .tray < length os → getD os (x′ .tray) None ≡ None → Marked (set ss p s′) (set os (x′ .tray) (Some (owner p i)))
   marked-opened os m l′ h f j n k e = ⊎-elim
       (λ r. let a : Some (x′ .tray) ≡ Some k = sym (cond-true (x′ .live) (Some (x′ .tray)) None l′) ∙ r .2 in
-        let b : k ≡ x′ .tray = cc in
-        ap (λ t. getD (set os (x′ .tray) (Some (owner p i))) t None) b ∙ getD-set-same os (x′ .tray) (Some (owner p i)) None h ∙ ap Some (λ u. owner (sym (r .0) u) (sym (r .1) u)))
+      let b : k ≡ x′ .tray = cc in
+      ap (λ t. getD (set os (x′ .tray) (Some (owner p i))) t None) b ∙ getD-set-same os (x′ .tray) (Some (owner p i)) None h ∙ ap Some (λ u. owner (sym (r .0) u) (sym (r .1) u)))
       (λ r. let o = m j n k (r .1) in
-        let apart : k ≡ x′ .tray → ⊥ = λ q. (let w : Some (owner j n) ≡ None = sym o ∙ ap (λ t. getD os t None) q ∙ f in let z : _≡_ {A = ℕ} 0 1 = cc in omega arith) in
-        getD-set-other os (x′ .tray) k (Some (owner p i)) None apart ∙ o)
+      let apart : k ≡ x′ .tray → ⊥ = λ q. (let w : Some (owner j n) ≡ None = sym o ∙ ap (λ t. getD os t None) q ∙ f in let z : _≡_ {A = ℕ} 0 1 = cc in omega arith) in
+      getD-set-other os (x′ .tray) k (Some (owner p i)) None apart ∙ o)
       (moved j n k e)
 
   pub marked-kept : (os : List (Option Owner)) → Marked ss os → x′ .live ≡ x .live → x′ .tray ≡ x .tray → Marked (set ss p s′) os
   marked-kept os m l t j n k e = ⊎-elim
       (λ r. let same : tray-held x′ ≡ tray-held x = (λ u. cond (l u) (Some (t u)) None) in
-        m p i k (was ∙ sym same ∙ r .2) ∙ ap Some (λ u. owner (sym (r .0) u) (sym (r .1) u)))
+      m p i k (was ∙ sym same ∙ r .2) ∙ ap Some (λ u. owner (sym (r .0) u) (sym (r .1) u)))
       (λ r. m j n k (r .1))
       (moved j n k e)
 
@@ -290,7 +303,7 @@ pub free-of : (boot count : ℕ) (ts : List Tray) (ss : List Session) (os : List
 unfolding free-trays
 free-of boot count ts ss os b =
     let a : sumBy open-slots (map (session-model ts) ss) ≡ sumBy slots-open ss =
-        sum-map-is open-slots (session-model ts) ss ∙ ap (λ f. sumBy f ss) (λ i s. open-slots-is ts s i)
+    sum-map-is open-slots (session-model ts) ss ∙ ap (λ f. sumBy f ss) (λ i s. open-slots-is ts s i)
     in
     ap (λ n. 64 - n) a ∙ omega arith
 

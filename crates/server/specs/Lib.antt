@@ -2,3 +2,4 @@ pub mod Server
 pub mod Trays
 pub mod Models
 pub mod Places
+pub mod Calls

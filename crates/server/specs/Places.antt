@@ -1,17 +1,17 @@
 -- Smaller steps, at one slot or at one place, that the server's calls are made of.
 use mathlib.Core.List.{List, []}
 use mathlib.Core.Bool.{Bool, true, false, cond, not}
-use Prim.Native.Nat.{ℕ}
-use lib.ListN.{getD, set, take}
+use Prim.Native.Nat.{ℕ, _+_}
+use lib.ListN.{getD, set, take, replicate}
 use Rattle.std.specs.Options.{mapped}
 use Rattle.std.specs.shelf.Lists.{countBy}
 use Rattle.std.specs.declared.option.Option.{Option}
 use Rattle.std.specs.declared.option.Option.the-variants.{Some, None}
 use Rattle.common.specs.Bytes.{Bytes}
 use Rattle.common.specs.Search.{when-found}
-use Rattle.wire.specs.Wire.{Request}
+use Rattle.wire.specs.Wire.{SessionId, Request}
 use Rattle.slots.specs.Slots.{highest-at, front-changed}
-use Rattle.server.specs.Server.{Last, never, in-progress, kept, not-kept, SlotM, SessionM, ServerM, Verdict, refuse, is-kept, slot-at, with-slot, with-open, verdict, works-at, is-bare, run-open}
+use Rattle.server.specs.Server.{Last, never, in-progress, kept, not-kept, SlotM, SessionM, ServerM, Verdict, refuse, is-kept, new-slot, slot-at, with-slot, with-open, verdict, works-at, is-bare, run-open}
 
 -- a slot once its call has run and gave those bytes
 abbrev pub concluded : SlotM → ℕ → ℕ → Bytes → SlotM
@@ -86,3 +86,15 @@ settled i s = with-slot s i (with-open (run-open s i) (slot-at s i))
 -- a session whose call at slot i has run and gave those bytes
 abbrev pub ended : ℕ → Bytes → SessionM → SessionM
 ended i bytes s = with-slot s i (concluded (slot-at s i) (highest-at (λ (x : SlotM). x .is-open) (s .slots) 0 0) (s .target) bytes)
+
+-- the server with a session at a place whose slots are all shut, and the next count
+abbrev pub begun : ServerM → ℕ → SessionId → ℕ → ServerM
+begun m place id target = record { boot = m .boot; count = m .count + 1; sessions = set (m .sessions) place (Some (record { id = id; target = target; slots = replicate 16 new-slot })) }
+
+-- a session with another target
+abbrev pub with-target : ℕ → SessionM → SessionM
+with-target target s = record { id = s .id; target = target; slots = s .slots }
+
+-- the server with no session at a place
+abbrev pub vacated : ServerM → ℕ → ServerM
+vacated m place = record { boot = m .boot; count = m .count; sessions = set (m .sessions) place None }

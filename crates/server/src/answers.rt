@@ -1,4 +1,6 @@
+use crate::orders::WorkOrder;
 use crate::records::Body;
+use wire::Refusal;
 use wire::SessionId;
 use wire::Status;
 
@@ -28,4 +30,12 @@ pub struct Answer {
     pub(crate) highest: u32,
     pub(crate) target: u32,
     pub(crate) body: Body,
+}
+
+/// What serve gives: a fault, a reply with a status, a reply with an old outcome, or a work order.
+pub enum Served {
+    Fault(Refusal),
+    Says(Answer),
+    Old(Answer),
+    Work(WorkOrder),
 }

@@ -5,7 +5,7 @@ ghost use Prim.Native.Nat.{ℕ, _≤_, _<_};
 ghost use lib.Dec.{eqb, ltb};
 ghost use lib.ListN.{length, take};
 ghost use Rattle.wire.specs.Models.{request-model};
-ghost use Rattle.server.specs.Server.{is-working, is-same, judge-last, judge-repeat, is-repeat, is-new, is-bare, judge-new, bad-highest, judge, accepted, with-open};
+ghost use Rattle.server.specs.Server.{new-slot, is-working, is-same, judge-last, judge-repeat, is-repeat, is-new, is-bare, judge-new, bad-highest, judge, accepted, with-open};
 ghost use Rattle.server.specs.Models.{held, last-model, slot-model, verdict-model};
 ghost use Rattle.server.specs.Places.{concluded, emptied};
 use crate::answers::Outcome;
@@ -25,7 +25,12 @@ impl Last {
     {
         match self {
             Last::InProgress => true,
-            Last::Never | Last::Kept { highest: _, target: _ } | Last::NotKept => false,
+            Last::Never
+            | Last::Kept {
+                highest: _,
+                target: _,
+            }
+            | Last::NotKept => false,
         }
     }
 }
@@ -39,7 +44,7 @@ fn bad_highest(request: Request<'_>) -> bool
 impl Slot {
     pub(crate) fn blank() -> Slot
         ensures shut { λ r. ⌜ r .live ≡ false ⌝ }
-        ensures never { λ r. ⌜ (r .number ≡ 0) × (r .highest ≡ 0) × (r .keep ≡ false) × (r .last ≡ Last.Never) ⌝ }
+        ensures value { λ r. ⌜ ((t : Tray) → slot-model t r ≡ new-slot) ⌝ }
     {
         Slot {
             live: false,
@@ -56,7 +61,9 @@ impl Slot {
     fn is_same(&self, tray: &Tray, request: Request<'_>) -> bool
         ensures { λ r. ⌜ r ≡ is-same (slot-model (now (tray .entry)) (now (self .entry))) (request-model (request .entry)) ⌝ }
     {
-        self.highest == request.highest && self.keep == request.keep && same(&tray.request[0..self.asked], request.body)
+        self.highest == request.highest
+            && self.keep == request.keep
+            && same(&tray.request[0..self.asked], request.body)
     }
 
     fn judge_last(&self, tray: &Tray) -> Verdict
@@ -76,7 +83,11 @@ impl Slot {
     fn judge_repeat(&self, tray: &Tray, request: Request<'_>) -> Verdict
         ensures { λ r. ⌜ verdict-model r ≡ judge-repeat (slot-model (now (tray .entry)) (now (self .entry))) (request-model (request .entry)) ⌝ }
     {
-        if self.is_same(tray, request) { self.judge_last(tray) } else { Verdict::Refuse(Status::SeqFalseRetry) }
+        if self.is_same(tray, request) {
+            self.judge_last(tray)
+        } else {
+            Verdict::Refuse(Status::SeqFalseRetry)
+        }
     }
 
     fn judge_new(&self, tray: &Tray, request: Request<'_>) -> Verdict

@@ -1,9 +1,17 @@
 //! The server: sessions, their slots with the reply cache, and what it does with a request.
 pub mod answers;
 mod bodies;
+mod calls;
 mod judging;
+pub mod orders;
 mod places;
 pub mod records;
 mod running;
+mod serving;
 mod sessions;
 pub mod state;
+
+pub use answers::Answer;
+pub use answers::Served;
+pub use orders::WorkOrder;
+pub use state::Server;

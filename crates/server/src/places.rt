@@ -14,9 +14,9 @@ use crate::records::Owner;
 use crate::records::Session;
 use crate::records::Tray;
 use crate::state::Server;
-use slots::lowest;
-use slots::Test;
 use slots::SLOTS;
+use slots::Test;
+use slots::lowest;
 use wire::Request;
 use wire::SessionId;
 

@@ -15,13 +15,13 @@ loop-i-again g c =
     let seen = sym (c .test .ensures ∙ ap p (c .index-items-i .is)) in
     let within = c .loop-i-test .taken in
     let least : c .if-test .n ≤ c .loop-i .i + 1 =
-        elim (c .if-test .came) [ then-test w ↦ omega (arith, w .n-is) | else-test w ↦ omega (arith, w .n-is) ]
+    elim (c .if-test .came) [ then-test w ↦ omega (arith, w .n-is) | else-test w ↦ omega (arith, w .n-is) ]
     in
     let all : c .if-test .n ≡ countBy p (take (c .loop-i .i + 1) (c .args .items .now)) =
-        elim (c .if-test .came) [
-          then-test w ↦ w .n-is ∙ ap (λ n. n + 1) (c .loop-i .inv .1) ∙ sym (countBy-more-yes p _ _ x within (seen ∙ w .if-test .taken))
-        | else-test w ↦ w .n-is ∙ c .loop-i .inv .1 ∙ sym (countBy-more-no p _ _ x within (seen ∙ w .if-test .left))
-        ]
+    elim (c .if-test .came) [
+      | then-test w ↦ w .n-is ∙ ap (λ n. n + 1) (c .loop-i .inv .1) ∙ sym (countBy-more-yes p _ _ x within (seen ∙ w .if-test .taken))
+      | else-test w ↦ w .n-is ∙ c .loop-i .inv .1 ∙ sym (countBy-more-no p _ _ x within (seen ∙ w .if-test .left))
+    ]
     in
     (least, all)
 

@@ -35,10 +35,13 @@ ghost-self-2 c =
     let hx : nth (s .slots) i ≡ Some x = ap (λ (r : Session). nth (r .slots) i) (getD-default ss p _ _ h) ∙ c .slot-kept .ensures in
     let n = new-live (v .boot) (v .count) (v .trays) ss p s x (request-model (c .args .request)) hs hx (c .pre .fresh) in
     let a = c .put .ensures in
-    let e = c .accept .ensures in
-    ((length-set _ _ _ ∙ v .whole .0, v .whole .1, length-set _ _ _ ∙ v .whole .2),
-    (marked-kept ss p i s _ x _ hs hx (n .0) (a .slots) (a .standing) (v .owners) (v .marked) (e .live) (e .tray),
-    (counted-kept ss p i s _ x _ hs hx (n .0) (a .slots) (a .standing) (v .owners) (v .counted) (e .live), tt)))
+    let e = c .accept .ensures in (
+      (length-set _ _ _ ∙ v .whole .0, v .whole .1, length-set _ _ _ ∙ v .whole .2),
+      (
+        marked-kept ss p i s _ x _ hs hx (n .0) (a .slots) (a .standing) (v .owners) (v .marked) (e .live) (e .tray),
+        (counted-kept ss p i s _ x _ hs hx (n .0) (a .slots) (a .standing) (v .owners) (v .counted) (e .live), tt),
+      ),
+    )
 
 pub returns : need.returns
 returns c =

@@ -35,9 +35,10 @@ loop-i-again c =
     let i = c .loop-i .i in
     let h : p < length (model v .sessions) = omega (arith, v .whole, length-map (v .sessions) (session-model (v .trays)), c .pre .within) in
     let l = shut-left-more (model v) p i (c .args .count) (c .loop-i-test .taken) (λ s e. omega (arith, sixteen (v .trays) (v .sessions) p s e, c .pre .few)) in
-    let k = loop-shut (model v) (model (c .loop-i .self)) p i (with-open true) h (c .loop-i .inv .0) in
-    (loop-more (model v) (model (c .loop-i .self)) p i (with-open true) h (c .loop-i .inv .0) _ (λ s e. omega (arith, sixteen (v .trays) (v .sessions) p s e, c .loop-i-test .taken, c .pre .few)) (c .open-slot .ensures .state),
-    omega (arith, l, k, c .loop-i .inv .1, c .open-slot .ensures .free))
+    let k = loop-shut (model v) (model (c .loop-i .self)) p i (with-open true) h (c .loop-i .inv .0) in (
+      loop-more (model v) (model (c .loop-i .self)) p i (with-open true) h (c .loop-i .inv .0) _ (λ s e. omega (arith, sixteen (v .trays) (v .sessions) p s e, c .loop-i-test .taken, c .pre .few)) (c .open-slot .ensures .state),
+      omega (arith, l, k, c .loop-i .inv .1, c .open-slot .ensures .free),
+    )
 
 pub returns : need.returns
 returns c =

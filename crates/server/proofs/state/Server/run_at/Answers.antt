@@ -35,7 +35,7 @@ returns g c =
     let k = g .S·Service .content (c .args .service .now) in
     let low : (m : SessionM) → session-at (model v) p ≡ Some m → i < length (m .slots) = λ m e. omega (arith, w .1, sixteen (v .trays) (v .sessions) p m e) in
     let then : (m : SessionM) → session-at (model v) p ≡ Some m → session-at (model (c .settle .last .self)) p ≡ Some (settled i m) =
-        λ m e. ap (λ n. session-at n p) (c .settle .ensures) ∙ at-change (model v .sessions) p (settled i) h ∙ ap (mapped (settled i)) e
+    λ m e. ap (λ n. session-at n p) (c .settle .ensures) ∙ at-change (model v .sessions) p (settled i) h ∙ ap (mapped (settled i)) e
     in
     let a = c .end .ensures in
     record {
