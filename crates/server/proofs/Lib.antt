@@ -4,3 +4,4 @@ pub mod Found
 pub mod Changes
 pub mod Runs
 pub mod Opened
+pub mod Fitting

@@ -3,3 +3,4 @@ pub mod Trays
 pub mod Models
 pub mod Places
 pub mod Calls
+pub mod Fits

@@ -1,3 +1,5 @@
+ghost use Prim.Native.Nat.{_≤_};
+ghost use Rattle.server.specs.Fits.{Fits};
 use crate::orders::WorkOrder;
 use crate::records::Body;
 use wire::Refusal;
@@ -10,6 +12,7 @@ pub struct Outcome {
     pub(crate) highest: u32,
     pub(crate) target: u32,
     pub(crate) body: Body,
+    ghost low: { (highest ≤ 15) × (target ≤ 15) },
 }
 
 /// What a slot says of a request: a status, the outcome of the call that it repeats, or that it is new.
@@ -30,6 +33,8 @@ pub struct Answer {
     pub(crate) highest: u32,
     pub(crate) target: u32,
     pub(crate) body: Body,
+    // so that it can always be written
+    ghost fit: { Fits status highest target (body .len) },
 }
 
 /// What serve gives: a fault, a reply with a status, a reply with an old outcome, or a work order.

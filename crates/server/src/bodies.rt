@@ -3,6 +3,8 @@ ghost use mathlib.Core.List.{[]};
 ghost use Prim.Native.Nat.{_≤_};
 ghost use lib.ListN.{length, take};
 ghost use Rattle.std.specs.shelf.Text.{sameBytes};
+ghost use Rattle.std.specs.declared.option.Option.the-variants.{None};
+ghost use Rattle.wire.specs.Wire.{forbidden-reply};
 ghost use Rattle.wire.specs.Models.{reply-model};
 ghost use Rattle.server.specs.Models.{held, answer-model};
 use crate::answers::Answer;
@@ -20,7 +22,8 @@ pub(crate) fn same(a: &[u8], b: &[u8]) -> bool
 
 impl Body {
     pub(crate) fn empty() -> Body
-        ensures { λ r. ⌜ held r ≡ [] ⌝ }
+        ensures value { λ r. ⌜ held r ≡ [] ⌝ }
+        ensures none { λ r. ⌜ r .len ≡ 0 ⌝ }
     {
         Body {
             bytes: [0; LONGEST],
@@ -61,6 +64,7 @@ impl Answer {
     pub fn reply(&self) -> Reply<'_>
         ensures value { λ r. ⌜ reply-model r ≡ answer-model (now (self .entry)) ⌝ }
         ensures short { λ r. ⌜ length (r .body .now) ≤ 256 ⌝ }
+        ensures fit { λ r. ⌜ forbidden-reply (reply-model r) ≡ None ⌝ }
     {
         Reply {
             status: self.status,

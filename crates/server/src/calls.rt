@@ -66,6 +66,7 @@ impl Server {
         requires within { ⌜ place < 8 ⌝ }
         requires vacant { ⌜ session-at (model (now self)) place ≡ None ⌝ }
         requires counts { ⌜ now self .count < 18446744073709551615 ⌝ }
+        requires low { ⌜ target ≤ 15 ⌝ }
         ensures { λ _. ⌜ model (now (self .exit)) ≡ begun (model (now (self .entry))) place (id-model id) target ⌝ }
     {
         self.count += 1;
@@ -112,7 +113,7 @@ impl Server {
 
     // The session at a place gets another target.
     fn aim(&mut self, place: usize, target: u32)
-        requires { ⌜ place < 8 ⌝ }
+        requires { ⌜ place < 8 ⌝ ∗ ⌜ target ≤ 15 ⌝ }
         ensures { λ _. ⌜ model (now (self .exit)) ≡ change-at (model (now (self .entry))) place (with-target target) ⌝ }
     {
         let mut session = self.sessions[place];

@@ -160,7 +160,8 @@ impl Slot {
 
     // The call without a body has run.
     pub(crate) fn conclude_bare(&mut self, highest: u32, target: u32)
-        requires { ⌜ now self .asked ≡ 0 ⌝ }
+        requires bare { ⌜ now self .asked ≡ 0 ⌝ }
+        requires low { ⌜ highest ≤ 15 ⌝ ∗ ⌜ target ≤ 15 ⌝ }
         ensures slot { λ _. ⌜ ((t : Tray) → slot-model t (now (self .exit)) ≡ concluded (slot-model t (now (self .entry))) highest target []) ⌝ }
         ensures live { λ _. ⌜ now (self .exit) .live ≡ now (self .entry) .live ⌝ }
         ensures tray { λ _. ⌜ now (self .exit) .tray ≡ now (self .entry) .tray ⌝ }

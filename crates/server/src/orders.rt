@@ -1,5 +1,5 @@
 ghost use mathlib.Core.Path.{_≡_};
-ghost use Rattle.wire.specs.Models.{same, answered};
+ghost use Rattle.wire.specs.Models.{itself, answer-model};
 ghost use Rattle.server.specs.Server.{run-work, set-work-aside, server-after, content-after};
 ghost use Rattle.server.specs.Models.{model};
 ghost use Rattle.server.specs.Calls.{work-model, running};
@@ -30,7 +30,7 @@ impl WorkOrder {
 
     /// Sets the call aside, to be resumed later: it stays in progress.
     pub fn set_aside(self, server: &Server) -> Result<(), Refusal>
-        ensures { λ r. ⌜ answered same r ≡ set-work-aside (model (now (server .entry))) (work-model self) ⌝ }
+        ensures { λ r. ⌜ answer-model itself r ≡ set-work-aside (model (now (server .entry))) (work-model self) ⌝ }
     {
         let WorkOrder { id, slot, number } = self;
         server.hold(id, slot, number)

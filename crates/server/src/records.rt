@@ -2,6 +2,7 @@ ghost use mathlib.Core.Path.{_≡_};
 ghost use mathlib.Core.Bool.{false};
 ghost use Prim.Native.Nat.{_≤_, _<_};
 ghost use lib.ListN.{length};
+ghost use Rattle.server.specs.Fits.{kept-highest, kept-target};
 use slots::SLOTS;
 use wire::SessionId;
 
@@ -55,6 +56,7 @@ pub struct Slot {
     pub(crate) answered: usize,
     pub(crate) last: Last,
     ghost fits: { (tray < 64) × (asked ≤ 256) × (answered ≤ 256) },
+    ghost low: { (kept-highest last ≤ 15) × (kept-target last ≤ 15) },
     // only a call without a body shuts its slot
     ghost bare: { live ≡ false → (asked ≡ 0) × (answered ≡ 0) },
 }
@@ -67,4 +69,5 @@ pub struct Session {
     pub(crate) target: u32,
     pub(crate) slots: [Slot; SLOTS],
     ghost whole: { length slots ≡ 16 },
+    ghost low: { target ≤ 15 },
 }

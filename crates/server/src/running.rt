@@ -5,7 +5,7 @@ ghost use Prim.Native.Nat.{_<_, _≤_};
 ghost use Rattle.std.specs.Options.{isSome};
 ghost use Rattle.std.specs.declared.option.Option.the-variants.{Some};
 ghost use Rattle.std.specs.declared.result.Result.the-variants.{Ok};
-ghost use Rattle.wire.specs.Models.{id-model, same, answered};
+ghost use Rattle.wire.specs.Models.{id-model, itself, answer-model};
 ghost use Rattle.slots.specs.Slots.{highest-at};
 ghost use Rattle.server.specs.Server.{SlotM, SessionM, place-of, slot-at, run-slot, run-work, resume-work, set-work-aside, server-after, content-after, run-highest, run-bytes, run-content, with-slot, finished};
 ghost use Rattle.server.specs.Models.{model, held};
@@ -49,6 +49,7 @@ impl Server {
         requires within { ⌜ place < 8 ⌝ }
         requires slot { ⌜ slot < 16 ⌝ }
         requires bare { ⌜ bare-in (model (now self)) place slot ≡ true ⌝ }
+        requires low { ⌜ highest ≤ 15 ⌝ ∗ ⌜ target ≤ 15 ⌝ }
         ensures { λ _. ⌜ model (now (self .exit)) ≡ change-at (model (now (self .entry))) place (at-slot (λ x. concluded x highest target []) slot) ⌝ }
     {
         let mut kept = self.sessions[place].slot(slot);
@@ -158,7 +159,7 @@ impl Server {
 
     // The call that a work order names stays in progress.
     pub(crate) fn hold(&self, id: SessionId, slot: u32, number: u32) -> Result<(), Refusal>
-        ensures { λ r. ⌜ answered same r ≡ set-work-aside (model (now (self .entry))) (record { id = id-model id; slot = slot; number = number }) ⌝ }
+        ensures { λ r. ⌜ answer-model itself r ≡ set-work-aside (model (now (self .entry))) (record { id = id-model id; slot = slot; number = number }) ⌝ }
     {
         match self.find(id) {
             None => Err(Refusal::NoWork),

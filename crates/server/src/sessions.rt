@@ -66,6 +66,7 @@ impl Session {
 
     // A session whose slots are all shut.
     pub(crate) fn shut(id: SessionId, target: u32) -> Session
+        requires { ⌜ target ≤ 15 ⌝ }
         ensures standing { λ r. ⌜ r .standing ≡ true ⌝ }
         ensures value { λ r. ⌜ ((ts : List Tray) → standing-model ts r ≡ record { id = id-model id; target = target; slots = replicate 16 new-slot }) ⌝ }
         ensures none { λ r. ⌜ ((i : ℕ) → tray-in r i ≡ None) × (slots-open r ≡ 0) ⌝ }

@@ -22,6 +22,7 @@ keep-bare-requires g c κs =
       within = c .pre .within;
       slot = c .pre .slot;
       bare = holds-from (λ m. is-bare (slot-at m i)) (session-at (model v) p) (c .pre .stands) (λ m e. sym (b m e) ∙ c .if-is-bare .taken);
+      low = (c .highest-open-highest .ensures .low, getD (v .sessions) p (c .index-self-place-2 .result) .low);
     }
 
 pub returns-then-is-bare : need.returns-then-is-bare
@@ -34,10 +35,10 @@ returns-then-is-bare g c =
     let top : (m : SessionM) → session-at (model v) p ≡ Some m → c .highest-open-highest .result ≡ highest-at (λ (x : SlotM). x .is-open) (m .slots) 0 0 = λ m e. c .highest-open-highest .ensures .value ∙ highest-told v p (c .index-self-place .result) m (c .pre .within) e in
     let goal : (m : SessionM) → session-at (model v) p ≡ Some m → getD (v .sessions) p (c .index-self-place-2 .result) .target ≡ m .target = λ m e. target-told v p (c .index-self-place-2 .result) m (c .pre .within) e in
     record {
-      outcome = λ m e. (top m e, goal m e, c .empty .ensures ∙ sym (cond-true _ _ _ (yes m e)));
+      outcome = λ m e. (top m e, goal m e, c .empty .ensures .value ∙ sym (cond-true _ _ _ (yes m e)));
       state =
           end-state (model v) _ p i _ _ [] (λ m e. (top m e, goal m e)) (c .keep-bare .ensures)
-          ∙ ap (λ bytes. change-at (model v) p (ended i bytes)) (sym (c .empty .ensures));
+          ∙ ap (λ bytes. change-at (model v) p (ended i bytes)) (sym (c .empty .ensures .value));
       content = λ m e. sym (cond-true _ _ _ (yes m e));
     }
 

@@ -17,7 +17,7 @@ use Rattle.server.proofs.Runs.{bare-asked}
 use Rattle.server.proofs.state.Server.keep_bare.Needs as need
 
 pub conclude-bare-requires : need.conclude-bare-requires
-conclude-bare-requires c κs = bare-asked (c .args .self .now) (c .args .place) (c .args .slot) (c .index-self-place .result) (c .slot-kept .result) (c .pre .within) (c .slot-kept .ensures) (c .pre .bare)
+conclude-bare-requires c κs = record { bare = bare-asked (c .args .self .now) (c .args .place) (c .args .slot) (c .index-self-place .result) (c .slot-kept .result) (c .pre .within) (c .slot-kept .ensures) (c .pre .bare); low = c .pre .low }
 
 pub ghost-self : need.ghost-self
 ghost-self c =
@@ -32,13 +32,10 @@ ghost-self c =
     let hs = nth-getD ss p (c .index-self-place-2 .result) h in
     let a = c .put .ensures in
     let e = c .conclude-bare .ensures in
-    let st = stands-here (v .trays) ss p s hs (holds-here (λ m. is-bare (slot-at m i)) (session-at (model v) p) (c .pre .bare) .0) in (
-      (length-set _ _ _ ∙ v .whole .0, v .whole .1, v .whole .2),
-      (
-        marked-kept ss p i s _ x _ hs hx st (a .slots) (a .standing) (v .owners) (v .marked) (e .live) (e .tray),
-        (counted-kept ss p i s _ x _ hs hx st (a .slots) (a .standing) (v .owners) (v .counted) (e .live), tt),
-      ),
-    )
+    let st = stands-here (v .trays) ss p s hs (holds-here (λ m. is-bare (slot-at m i)) (session-at (model v) p) (c .pre .bare) .0) in
+    ((length-set _ _ _ ∙ v .whole .0, v .whole .1, v .whole .2),
+    (marked-kept ss p i s _ x _ hs hx st (a .slots) (a .standing) (v .owners) (v .marked) (e .live) (e .tray),
+    (counted-kept ss p i s _ x _ hs hx st (a .slots) (a .standing) (v .owners) (v .counted) (e .live), tt)))
 
 pub returns : need.returns
 returns c =
