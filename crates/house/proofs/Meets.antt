@@ -1,0 +1,13 @@
+-- A call that answers and leaves what its step says goes on with every history.
+use mathlib.Core.Path.{_≡_}
+use Rattle.service.specs.declared.Service as service
+use Rattle.channel.specs.declared.Channel as channel
+use Rattle.exactly_once.specs.History.{Asked, Answer}
+use Rattle.exactly_once.specs.Houses.{parts}
+use Rattle.exactly_once.specs.Lived.{met}
+use Rattle.exactly_once.specs.Steps.{act}
+use Rattle.house.specs.declared.state.House.{House}
+use Rattle.house.specs.Houses.{house-state, Met}
+
+pub meets : {S Q R : Type 0} (s : service.Ghosts S) (q : channel.Ghosts Q) (r : channel.Ghosts R) (before after : House S Q R) (asked : Asked) (answered : Answer) → answered ≡ act (parts s q r) (house-state s q r before) asked .answer → house-state s q r after ≡ act (parts s q r) (house-state s q r before) asked .after → Met s q r before after asked answered
+meets s q r before after asked answered answer state = record { answer = answer; state = state; lives = λ first h l. met asked l state }

@@ -1,0 +1,6 @@
+//! A house: one server and its service, up to eight terminals, and a channel each way between them.
+mod places;
+mod sends;
+pub mod state;
+
+pub use state::House;
