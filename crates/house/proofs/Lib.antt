@@ -1,2 +1,3 @@
 pub mod Meets
 pub mod Sending
+pub mod Taking

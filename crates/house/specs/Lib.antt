@@ -1,3 +1,4 @@
 pub mod Answers
 pub mod Houses
 pub mod Sends
+pub mod Takes

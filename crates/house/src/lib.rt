@@ -2,5 +2,8 @@
 mod places;
 mod sends;
 pub mod state;
+pub mod takes;
 
 pub use state::House;
+pub use takes::Closing;
+pub use takes::Taken;
