@@ -20,7 +20,7 @@ use Rattle.terminal.specs.Terminal.{TerminalM, OpenCall, Effect, end-at, belong
 use Rattle.terminal.specs.Replies.{accept-answer}
 use Rattle.exactly_once.specs.History.{Answer, taken}
 use Rattle.exactly_once.specs.Steps.{Parts, Model, Step, terminal-at, bears, refuse, rest-replies, take-stops, take-effect, take-at, take-read, take-step}
-use Rattle.house.specs.Takes.{accepts, settled, Handing, unclaimed, claimed-by, handed-in, handed}
+use Rattle.house.specs.Takes.{accepts, settled, Handing, unclaimed, claimed-by, handed-in, handed, received}
 
 -- a reply that belongs to no open call alters no record
 after-none : (t : TerminalM) (r : Reply) → belongs t r ≡ false → after-accept t r ≡ t
@@ -94,9 +94,6 @@ module _ (P : Parts) (m : Model P) (room : ℕ) where
     take-some : take-step P m room ≡ take-read P (rest-replies P m) b (read-reply b)
     take-some = take-is h ∙ ap (when-found (refuse P (rest-replies P m) nothing-waits) (λ b. take-read P (rest-replies P m) b (read-reply b))) (gives-is (Some b) h gave)
 
-    pub take-unread : (e : Refusal) → Err e ≡ read-reply b → take-step P m room ≡ take-stops P (rest-replies P m) b e
-    take-unread e is = take-some ∙ ap (take-read P (rest-replies P m) b) (sym is)
-
     -- the step by the records after it and its answer
     abbrev step-by : Handing → Step P
     step-by x = record { after = with-taken (x .records) (P .replies .rests (m .replies)); answer = x .answer; put = None; took = Some b }
@@ -113,5 +110,9 @@ module _ (P : Parts) (m : Model P) (room : ℕ) where
     hands r None = refl
     hands r (Some p) = hands-in r p (terminal-at P m p)
 
-    pub take-read-is : (r : Reply) → Ok r ≡ read-reply b → take-step P m room ≡ record { after = with-taken (handed (m .terminals) r .records) (P .replies .rests (m .replies)); answer = handed (m .terminals) r .answer; put = None; took = Some b }
-    take-read-is r is = take-some ∙ ap (take-read P (rest-replies P m) b) (sym is) ∙ hands r (lowest-at (bears r) (m .terminals) 0)
+    reads : (x : Result Reply Refusal) → take-read P (rest-replies P m) b x ≡ step-by (received (m .terminals) x)
+    reads (Ok r) = hands r (lowest-at (bears r) (m .terminals) 0)
+    reads (Err e) = refl
+
+    pub take-received : take-step P m room ≡ record { after = with-taken (received (m .terminals) (read-reply b) .records) (P .replies .rests (m .replies)); answer = received (m .terminals) (read-reply b) .answer; put = None; took = Some b }
+    take-received = take-some ∙ reads (read-reply b)

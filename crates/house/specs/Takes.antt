@@ -70,3 +70,8 @@ handed-in ts r p o = when-found (unclaimed ts) (λ (t : TerminalM). when-found (
 -- handed to the lowest record that has its session id
 abbrev pub handed : List (Option TerminalM) → Reply → Handing
 handed ts r = when-found (unclaimed ts) (λ p. handed-in ts r p (getD ts p None)) (lowest-at (bears r) ts 0)
+
+-- a message, read and handed over
+abbrev pub received : List (Option TerminalM) → Result Reply Refusal → Handing
+received ts (Ok r) = handed ts r
+received ts (Err e) = record { records = ts; answer = refusal e }

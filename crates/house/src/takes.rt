@@ -3,12 +3,13 @@ ghost use mathlib.Core.List.{map};
 ghost use Prim.Native.Nat.{_≤_};
 ghost use lib.ListN.{length};
 ghost use Rattle.channel.specs.Channel.{laid};
+ghost use Rattle.wire.specs.Wire.{read-reply};
 ghost use Rattle.wire.specs.Models.{answer-model, reply-model, id-model};
 ghost use Rattle.terminal.specs.Replies.{effect-model};
 ghost use Rattle.exactly_once.specs.History.{asked-take};
 ghost use Rattle.house.specs.Answers.{answer-by};
 ghost use Rattle.house.specs.Houses.{place-model, Met, takes};
-ghost use Rattle.house.specs.Takes.{closing-model, taken-answer, Short, bears-id, accepts, settled, handed};
+ghost use Rattle.house.specs.Takes.{closing-model, taken-answer, Short, bears-id, accepts, settled, handed, received};
 use crate::places::Place;
 use crate::sends::ROOM;
 use crate::state::House;
@@ -112,6 +113,15 @@ fn accept_at(places: &mut [Place], reply: Reply<'_>) -> Result<Taken, Refusal>
     })
 }
 
+/// Reads a message as a reply and hands it over.
+fn receive(places: &mut [Place], message: &[u8]) -> Result<Taken, Refusal>
+    ensures answer { λ r. ⌜ answer-by taken-answer r ≡ received (map place-model (now (places .entry))) (read-reply (now (message .entry))) .answer ⌝ }
+    ensures after { λ _. ⌜ map place-model (now (places .exit)) ≡ received (map place-model (now (places .entry))) (read-reply (now (message .entry))) .records ⌝ }
+{
+    let reply = read_reply(message)?;
+    accept_at(places, reply)
+}
+
 impl<S: Service, Q: Channel, R: Channel> House<S, Q, R> {
     /// Takes a reply from its channel and hands it to its terminal.
     pub fn take(&mut self, scratch: &mut [u8]) -> Result<Taken, Refusal>
@@ -124,7 +134,6 @@ impl<S: Service, Q: Channel, R: Channel> House<S, Q, R> {
         let Some(len) = self.replies.take(scratch) else {
             return Err(Refusal::NothingWaits);
         };
-        let reply = read_reply(&scratch[0..len])?;
-        accept_at(&mut self.places, reply)
+        receive(&mut self.places, &scratch[0..len])
     }
 }
