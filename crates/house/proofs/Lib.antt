@@ -1,3 +1,4 @@
+pub mod Calling
 pub mod Meets
 pub mod Sending
 pub mod Taking

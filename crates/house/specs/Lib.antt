@@ -1,4 +1,5 @@
 pub mod Answers
 pub mod Houses
 pub mod Sends
+pub mod Sessions
 pub mod Takes

@@ -1,6 +1,7 @@
 //! A house: one server and its service, up to eight terminals, and a channel each way between them.
 mod places;
 mod sends;
+mod sessions;
 pub mod state;
 pub mod takes;
 
