@@ -1,4 +1,6 @@
 pub mod Calling
+pub mod Hearing
 pub mod Meets
+pub mod Resuming
 pub mod Sending
 pub mod Taking

@@ -1,4 +1,5 @@
 pub mod Answers
+pub mod Hears
 pub mod Houses
 pub mod Sends
 pub mod Sessions

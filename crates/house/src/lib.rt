@@ -1,10 +1,13 @@
 //! A house: one server and its service, up to eight terminals, and a channel each way between them.
+pub mod hears;
 mod places;
 mod sends;
 mod sessions;
 pub mod state;
 pub mod takes;
 
+pub use hears::Heard;
+pub use hears::Told;
 pub use state::House;
 pub use takes::Closing;
 pub use takes::Taken;
