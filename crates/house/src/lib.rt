@@ -1,6 +1,7 @@
 //! A house: one server and its service, up to eight terminals, and a channel each way between them.
 pub mod hears;
 mod places;
+mod reads;
 mod sends;
 mod sessions;
 pub mod state;
