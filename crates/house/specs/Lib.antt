@@ -3,4 +3,5 @@ pub mod Hears
 pub mod Houses
 pub mod Sends
 pub mod Sessions
+pub mod Summaries
 pub mod Takes
