@@ -95,7 +95,7 @@ module _ (P : Parts) (laws : PartsLaws P) (first : P .service .Content) (h : His
       below : (x y : ℕ) → x < y → y < 2 ^ 64 → x < 2 ^ 64
       below x y l g = omega arith
 
-  -- an older call of this session has a lower number at this slot
+  -- an older call of the same session has a lower number at this slot
   older : (t : ℕ) (c : Call) (g : Request) → Known h t o c g → g .slot ≡ i → g .number ≡ end-at T i .number + 1 → ⊥
   older t c g z es en = omega (arith, subst (λ x. g .number ≤ end-at T x .number) es (side .low t c g z), en)
 

@@ -163,7 +163,7 @@ module _ (P : Parts) (first : P .service .Content) (h : History) (m : Model P) (
     idle : ends P m .at-rest p s ≡ true → end-at (now .T) s .call ≡ None
     idle e = at-rest-none (end-at (now .T) s) (sym (ap (λ x. not (is-busy x)) end-is) ∙ e)
 
-    -- an open call there is of this session
+    -- an open call there is of the same session
     same-session : (t : ℕ) (c : Call) → Ordered h t c → c .terminal ≡ p → Open h t c (length h) → (f : Request) × Known h t o c f
     same-session t c or e op =
         let k = inv .calls .known t c or in

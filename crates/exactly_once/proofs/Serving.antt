@@ -80,7 +80,7 @@ module _ (P : Parts) (first : P .service .Content) (h : History) (m : Model P) (
     new-open : (u v : ℕ) (d : Call) (g : Request) → Known h u v d g → Open h u d n → Open (e ∷ h) u d (suc n)
     new-open u v d g k x = open-still e h u d x (W .no-reply d) (W .no-open (d .terminal))
 
-    -- calls of this session other than c
+    -- calls of the same session other than c
     old-heard : (u : ℕ) (d : Call) (g : Request) → Known h u o d g → u ≢ t → Heard-before (e ∷ h) o d (suc n) → Heard-before h o d n
     old-heard u d g k ne x = ⊎-elim (λ q. q) (λ q. absurd (ne (W .only-hears u o d g (q .0) k (q .1)))) (heard-new e h o d x)
 
