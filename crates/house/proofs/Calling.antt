@@ -47,32 +47,32 @@ module _ (P : Parts) (m : Model P) where
   pub open-stays : (target : ℕ) (e : Refusal) (n : ServerM) → Err e ≡ open-session (m .server) target → n ≡ after-opening (m .server) (open-session (m .server) target) → n ≡ m .server
   open-stays target e n is after = after ∙ ap (after-opening (m .server)) (sym is)
 
-  -- a call at the session of the terminal at p
-  abbrev pub at-session : ℕ → (SessionId → Result ServerM Refusal) → Step P
-  at-session p go = when-found (refuse P m no-terminal) (λ (t : TerminalM). server-by P m (go (t .id))) (terminal-at P m p)
+  -- a call that wants the session id of the terminal at p
+  abbrev pub at-place : ℕ → (SessionId → Step P) → Step P
+  at-place p by = when-found (refuse P m no-terminal) (λ (t : TerminalM). by (t .id)) (terminal-at P m p)
 
-  pub retarget-is : (p target : ℕ) → retarget-step P m p target ≡ at-session p (λ id. retarget-session (m .server) id target)
+  pub retarget-is : (p target : ℕ) → retarget-step P m p target ≡ at-place p (λ id. server-by P m (retarget-session (m .server) id target))
   unfolding retarget-step
   retarget-is p target = refl
 
-  pub close-is : (p : ℕ) → close-step P m p ≡ at-session p (close-session (m .server))
+  pub close-is : (p : ℕ) → close-step P m p ≡ at-place p (λ id. server-by P m (close-session (m .server) id))
   unfolding close-step
   close-is p = refl
 
-  module _ (go : SessionId → Result ServerM Refusal) where
-    none-at : (o : Option TerminalM) (e : Refusal) → Err e ≡ id-in o → when-found (refuse P m no-terminal) (λ (t : TerminalM). server-by P m (go (t .id))) o ≡ refuse P m e
+  module _ (by : SessionId → Step P) where
+    none-at : (o : Option TerminalM) (e : Refusal) → Err e ≡ id-in o → when-found (refuse P m no-terminal) (λ (t : TerminalM). by (t .id)) o ≡ refuse P m e
     none-at None e is = let same : no-terminal ≡ e = cc in ap (refuse P m) same
     none-at (Some t) e is = absurd (let z : _≡_ {A = ℕ} 0 1 = cc in omega arith)
 
-    pub session-none : (p : ℕ) (e : Refusal) → Err e ≡ id-in (terminal-at P m p) → at-session p go ≡ refuse P m e
-    session-none p e is = none-at (terminal-at P m p) e is
+    pub place-none : (p : ℕ) (e : Refusal) → Err e ≡ id-in (terminal-at P m p) → at-place p by ≡ refuse P m e
+    place-none p e is = none-at (terminal-at P m p) e is
 
-    some-at : (o : Option TerminalM) (id : SessionId) → Ok id ≡ id-in o → when-found (refuse P m no-terminal) (λ (t : TerminalM). server-by P m (go (t .id))) o ≡ server-by P m (go id)
+    some-at : (o : Option TerminalM) (id : SessionId) → Ok id ≡ id-in o → when-found (refuse P m no-terminal) (λ (t : TerminalM). by (t .id)) o ≡ by id
     some-at None id is = absurd (let z : _≡_ {A = ℕ} 0 1 = cc in omega arith)
-    some-at (Some t) id is = let same : t .id ≡ id = cc in ap (λ x. server-by P m (go x)) same
+    some-at (Some t) id is = let same : t .id ≡ id = cc in ap by same
 
-    pub session-some : (p : ℕ) (id : SessionId) → Ok id ≡ id-in (terminal-at P m p) → at-session p go ≡ server-by P m (go id)
-    session-some p id is = some-at (terminal-at P m p) id is
+    pub place-some : (p : ℕ) (id : SessionId) → Ok id ≡ id-in (terminal-at P m p) → at-place p by ≡ by id
+    place-some p id is = some-at (terminal-at P m p) id is
 
   -- what the server answered, as the house's step
   pub record Called (r : Result (Unit {0}) CodeRefusal) (n : ServerM) (x : Result ServerM Refusal) : Type 0 where

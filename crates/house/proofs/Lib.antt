@@ -2,6 +2,6 @@ pub mod Calling
 pub mod Counts
 pub mod Hearing
 pub mod Meets
-pub mod Resuming
+pub mod Rooms
 pub mod Sending
 pub mod Taking

@@ -4,9 +4,9 @@ use mathlib.Core.List.{List}
 use mathlib.Core.Bool.{Bool, true, false, cond}
 use Prim.Native.Nat.{ℕ, _<_, _≤_}
 use native.Mathlib.Omega.{arith}
-use lib.Dec.{ltb, leb}
+use lib.Dec.{ltb}
 use lib.ListN.{length, getD, set}
-use Rattle.std.proofs.shelf.Tests.{cond-true, cond-false, lt-ltb, le-ltb, le-leb}
+use Rattle.std.proofs.shelf.Tests.{cond-true, cond-false, lt-ltb, le-ltb}
 use Rattle.std.specs.declared.option.Option.{Option}
 use Rattle.std.specs.declared.option.Option.the-variants.{Some, None}
 use Rattle.std.specs.declared.result.Result.{Result}
@@ -14,13 +14,14 @@ use Rattle.std.specs.declared.result.Result.the-variants.{Ok, Err}
 use Rattle.common.specs.Bytes.{Bytes}
 use Rattle.common.specs.Search.{when-found, lowest-at}
 use Rattle.slots.proofs.Slots.{lowest-some}
-use Rattle.channel.specs.Channel.{take-step as rest-step, take-gives}
+use Rattle.channel.specs.Channel.{take-gives}
 use Rattle.wire.specs.Wire.{Reply, Refusal, read-reply, short-scratch, nothing-waits, no-call}
 use Rattle.terminal.specs.Terminal.{TerminalM, OpenCall, Effect, end-at, belongs, reply-effect, accept-effect, after-accept, after-effect}
 use Rattle.terminal.specs.Replies.{accept-answer}
 use Rattle.exactly_once.specs.History.{Answer, taken}
 use Rattle.exactly_once.specs.Steps.{Parts, Model, Step, terminal-at, bears, refuse, rest-replies, take-stops, take-effect, take-at, take-read, take-step}
 use Rattle.house.specs.Takes.{accepts, settled, Handing, unclaimed, claimed-by, handed-in, handed, received}
+use Rattle.house.proofs.Rooms.{given}
 
 -- a reply that belongs to no open call alters no record
 after-none : (t : TerminalM) (r : Reply) → belongs t r ≡ false → after-accept t r ≡ t
@@ -80,19 +81,12 @@ module _ (P : Parts) (m : Model P) (room : ℕ) where
   unfolding take-step
   take-is h = cond-false (ltb room 304) (refuse P m short-scratch) (when-found (refuse P (rest-replies P m) nothing-waits) (λ b. take-read P (rest-replies P m) b (read-reply b)) (P .replies .gives (m .replies))) (le-ltb room 304 h)
 
-  -- what the channel gives, where there is room
-  gives-is : (o : Option Bytes) → 304 ≤ room → o ≡ take-gives (P .replies) (m .replies) room → P .replies .gives (m .replies) ≡ o
-  gives-is o h gave = sym (gave ∙ cond-true (leb 304 room) (P .replies .gives (m .replies)) None (le-leb 304 room h))
-
-  pub rests-is : (x : P .replies .State) → 304 ≤ room → x ≡ rest-step (P .replies) (m .replies) room → x ≡ P .replies .rests (m .replies)
-  rests-is x h after = after ∙ cond-true (leb 304 room) (P .replies .rests (m .replies)) (m .replies) (le-leb 304 room h)
-
   pub take-none : 304 ≤ room → None ≡ take-gives (P .replies) (m .replies) room → take-step P m room ≡ refuse P (rest-replies P m) nothing-waits
-  take-none h gave = take-is h ∙ ap (when-found (refuse P (rest-replies P m) nothing-waits) (λ b. take-read P (rest-replies P m) b (read-reply b))) (gives-is None h gave)
+  take-none h gave = take-is h ∙ ap (when-found (refuse P (rest-replies P m) nothing-waits) (λ b. take-read P (rest-replies P m) b (read-reply b))) (given (P .replies) (m .replies) room h None gave)
 
   module _ (b : Bytes) (h : 304 ≤ room) (gave : Some b ≡ take-gives (P .replies) (m .replies) room) where
     take-some : take-step P m room ≡ take-read P (rest-replies P m) b (read-reply b)
-    take-some = take-is h ∙ ap (when-found (refuse P (rest-replies P m) nothing-waits) (λ b. take-read P (rest-replies P m) b (read-reply b))) (gives-is (Some b) h gave)
+    take-some = take-is h ∙ ap (when-found (refuse P (rest-replies P m) nothing-waits) (λ b. take-read P (rest-replies P m) b (read-reply b))) (given (P .replies) (m .replies) room h (Some b) gave)
 
     -- the step by the records after it and its answer
     abbrev step-by : Handing → Step P

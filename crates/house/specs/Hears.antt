@@ -1,4 +1,4 @@
--- What a hear is told, and what it answers.
+-- What hear is told and answers.
 use mathlib.Core.Path.{_≡_}
 use Rattle.service.specs.declared.Service as service
 use Rattle.channel.specs.declared.Channel as channel
@@ -7,25 +7,25 @@ use Rattle.exactly_once.specs.History.{Told, run, aside, Answer, ran, set-aside
 use Rattle.exactly_once.specs.Houses.{parts}
 use Rattle.exactly_once.specs.Steps.{Step}
 use Rattle.house.specs.declared.hears.Told.{Told as CodeTold}
-use Rattle.house.specs.declared.hears.Told.the-variants.{Run as RunIt, Aside as SetAside}
+use Rattle.house.specs.declared.hears.Told.the-variants.{Run, Aside as AsideTold}
 use Rattle.house.specs.declared.hears.Heard.{Heard}
 use Rattle.house.specs.declared.hears.Heard.the-variants.{Ran, Aside, Again, Status}
 use Rattle.house.specs.declared.state.House.{House}
 use Rattle.house.specs.Houses.{house-state}
 
--- what to do with a new call
+-- what it is told
 abbrev pub told-model : CodeTold → Told
-told-model RunIt = run
-told-model SetAside = aside
+told-model Run = run
+told-model AsideTold = aside
 
--- what a hear did
+-- what it answers
 abbrev pub heard-answer : Heard → Answer
 heard-answer Ran = ran
 heard-answer Aside = set-aside
 heard-answer Again = again
 heard-answer (Status s) = status (status-number s)
 
--- a house and an answer are those of a step
+-- a house that answered and is as a step says
 pub record Stepped {S Q R : Type 0} (s : service.Ghosts S) (q : channel.Ghosts Q) (r : channel.Ghosts R) (after : House S Q R) (answered : Answer) (step : Step (parts s q r)) : Type 0 where
   pub answer : answered ≡ step .answer
   pub state : house-state s q r after ≡ step .after

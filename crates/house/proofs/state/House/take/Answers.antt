@@ -8,7 +8,8 @@ use Rattle.exactly_once.specs.Houses.{parts}
 use Rattle.exactly_once.specs.Steps.{Step}
 use Rattle.house.specs.Houses.{house-state}
 use Rattle.house.proofs.Meets.{meets-by}
-use Rattle.house.proofs.Taking.{take-short, take-none, take-received, rests-is, with-replies, with-taken}
+use Rattle.house.proofs.Rooms.{rested}
+use Rattle.house.proofs.Taking.{take-short, take-none, take-received, with-replies, with-taken}
 use Rattle.house.proofs.state.House.take.Needs as need
 
 pub returns-then-scratch-lt-ROOM : need.returns-then-scratch-lt-ROOM
@@ -30,7 +31,7 @@ returns-in-rest g c =
     let a = c .in-rest .ensures tt in
     let e = take-none P m room (c .if-scratch-lt-ROOM .left) (a .gave) in
     record {
-      met = meets-by (g .S·Service) (g .Q·Channel) (g .R·Channel) h (record { server = h .server; service = h .service; places = h .places; requests = h .requests; replies = c .take .last .self }) _ _ _ e refl (ap (with-replies P m room) (rests-is P m room _ (c .if-scratch-lt-ROOM .left) (a .after)));
+      met = meets-by (g .S·Service) (g .Q·Channel) (g .R·Channel) h (record { server = h .server; service = h .service; places = h .places; requests = h .requests; replies = c .take .last .self }) _ _ _ e refl (ap (with-replies P m room) (rested (P .replies) (m .replies) room (c .if-scratch-lt-ROOM .left) _ (a .after)));
       scratch = a .front ∙ ap (λ o. laid o (c .args .scratch .now)) (sym (a .gave) ∙ ap (λ (x : Step P). x .took) (sym e));
     }
 
@@ -46,6 +47,6 @@ returns g c =
     let gave : Some b ≡ take-gives (P .replies) (m .replies) room = ap (λ n. Some (take n (c .take .last .buffer))) whole ∙ a .gave in
     let e = take-received P m room b (c .if-scratch-lt-ROOM .left) gave in
     record {
-      met = meets-by (g .S·Service) (g .Q·Channel) (g .R·Channel) h (record { server = h .server; service = h .service; places = c .receive .last .places; requests = h .requests; replies = c .take .last .self }) _ _ _ e (c .receive .ensures .answer) (ap₂ (with-taken P m room) (c .receive .ensures .after) (rests-is P m room _ (c .if-scratch-lt-ROOM .left) (a .after)));
+      met = meets-by (g .S·Service) (g .Q·Channel) (g .R·Channel) h (record { server = h .server; service = h .service; places = c .receive .last .places; requests = h .requests; replies = c .take .last .self }) _ _ _ e (c .receive .ensures .answer) (ap₂ (with-taken P m room) (c .receive .ensures .after) (rested (P .replies) (m .replies) room (c .if-scratch-lt-ROOM .left) _ (a .after)));
       scratch = a .front ∙ ap (λ o. laid o (c .args .scratch .now)) (sym gave ∙ ap (λ (x : Step P). x .took) (sym e));
     }
