@@ -299,13 +299,12 @@ open-slots-is ts s = go (s .standing)
     go true = counts (s .slots)
     go false = refl
 
+pub open-sum-is : (ts : List Tray) (ss : List Session) → sumBy open-slots (map (session-model ts) ss) ≡ sumBy slots-open ss
+open-sum-is ts ss = sum-map-is open-slots (session-model ts) ss ∙ ap (λ f. sumBy f ss) (λ i s. open-slots-is ts s i)
+
 pub free-of : (boot count : ℕ) (ts : List Tray) (ss : List Session) (os : List (Option Owner)) → countBy is-free os + sumBy slots-open ss ≡ 64 → free-trays (record { boot = boot; count = count; sessions = map (session-model ts) ss }) ≡ countBy is-free os
 unfolding free-trays
-free-of boot count ts ss os b =
-    let a : sumBy open-slots (map (session-model ts) ss) ≡ sumBy slots-open ss =
-    sum-map-is open-slots (session-model ts) ss ∙ ap (λ f. sumBy f ss) (λ i s. open-slots-is ts s i)
-    in
-    ap (λ n. 64 - n) a ∙ omega arith
+free-of boot count ts ss os b = let a = open-sum-is ts ss in ap (λ n. 64 - n) a ∙ omega arith
 
 pub free-is : (v : Server) → free-trays (model v) ≡ countBy is-free (v .owners)
 free-is v = free-of (v .boot) (v .count) (v .trays) (v .sessions) (v .owners) (v .counted)

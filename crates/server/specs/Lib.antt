@@ -4,3 +4,4 @@ pub mod Models
 pub mod Places
 pub mod Calls
 pub mod Fits
+pub mod Laws

@@ -33,6 +33,10 @@ owner place i = record { place = place; slot = i }
 abbrev pub Marked : List Session → List (Option Owner) → Type 0
 Marked ss os = (place i k : ℕ) → tray-of ss place i ≡ Some k → getD os k None ≡ Some (owner place i)
 
+-- distinct open slots own distinct trays
+abbrev pub Apart : List Session → Type 0
+Apart ss = (place place′ i i′ k : ℕ) → tray-of ss place i ≡ Some k → tray-of ss place′ i′ ≡ Some k → (place ≡ place′) × (i ≡ i′)
+
 -- a tray that no slot owns
 abbrev pub is-free : Option Owner → Bool
 is-free None = true

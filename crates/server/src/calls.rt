@@ -2,10 +2,12 @@ ghost use mathlib.Core.Path.{_≡_};
 ghost use mathlib.Core.Bool.{true, false, not};
 ghost use Prim.Native.Nat.{_+_, _≤_, _<_};
 ghost use Rattle.std.specs.Options.{isSome};
+ghost use Rattle.std.specs.shelf.Lists.{sumBy};
 ghost use Rattle.std.specs.declared.option.Option.the-variants.{Some, None};
 ghost use Rattle.wire.specs.Wire.{SessionId as SessionIdM};
 ghost use Rattle.wire.specs.Models.{id-model};
 ghost use Rattle.server.specs.Server.{SessionM, session-of, place-of, free-trays, open-slots, open-session, open-in, retarget-session, retarget-in, close-session, after-call};
+ghost use Rattle.server.specs.Trays.{Apart};
 ghost use Rattle.server.specs.Models.{model};
 ghost use Rattle.server.specs.Places.{session-at, change-at, begun, with-target, vacated};
 ghost use Rattle.server.specs.Calls.{new-server, opening, after-opening, calling};
@@ -54,9 +56,11 @@ impl Server {
         self.find(id).is_some()
     }
 
-    /// How many trays no slot owns.
+    /// How many trays no slot owns: 64 less the open slots, since no two of them own one tray.
     pub fn free_trays(&self) -> usize
-        ensures { λ r. ⌜ r ≡ free-trays (model (now (self .entry))) ⌝ }
+        ensures value { λ r. ⌜ r ≡ free-trays (model (now (self .entry))) ⌝ }
+        ensures counted { λ r. ⌜ r + sumBy open-slots (model (now (self .entry)) .sessions) ≡ 64 ⌝ }
+        ensures apart { λ _. ⌜ Apart (now (self .entry) .sessions) ⌝ }
     {
         count(&self.owners, &Free)
     }

@@ -3,6 +3,7 @@ pub mod answers;
 mod bodies;
 mod calls;
 mod judging;
+pub mod laws;
 pub mod orders;
 mod places;
 pub mod records;
@@ -13,5 +14,8 @@ pub mod state;
 
 pub use answers::Answer;
 pub use answers::Served;
+pub use laws::cases;
+pub use laws::repeats;
+pub use laws::stays_manned;
 pub use orders::WorkOrder;
 pub use state::Server;

@@ -31,7 +31,7 @@ open-slots-requires c κs =
       within = c .pre .within;
       few = few;
       stands = ap (λ q. isSome (session-at q p)) e ∙ ap isSome (begun-there m p (new-id m) (c .args .target) h);
-      room = omega (arith, free, shut, some, c .free-trays .ensures, c .if-free-trays-slots .left);
+      room = omega (arith, free, shut, some, c .free-trays .ensures .value, c .if-free-trays-slots .left);
     }
 
 pub returns : need.returns
@@ -42,5 +42,5 @@ returns c =
     let n = c .args .target + 1 in
     let h : p < length (m .sessions) = omega (arith, v .whole, length-map (v .sessions) (session-model (v .trays)), c .pre .within) in
     let e = c .open-slots .ensures ∙ ap (λ q. change-at q p (at-front (with-open true) n)) (c .begin .ensures) ∙ begun-opened m p (c .args .target) h in
-    let a = ap Ok (λ u. record { id = new-id m; after = e u }) ∙ sym (open-accepted m (c .args .target) p (c .if-self .left) (omega (arith, c .free-trays .ensures, c .if-free-trays-slots .left))) in
+    let a = ap Ok (λ u. record { id = new-id m; after = e u }) ∙ sym (open-accepted m (c .args .target) p (c .if-self .left) (omega (arith, c .free-trays .ensures .value, c .if-free-trays-slots .left))) in
     record { answer = a; state = ap (after-opening m) a }

@@ -36,7 +36,7 @@ returns-then-free-trays-shut-below c =
     let m = model v in
     let t = c .args .target in
     let few : (s : SessionM) → session-at m (c .args .place) ≡ Some s → free-trays m < shut-up-to s t =
-    λ s e. omega (arith, c .shut-below .ensures, told v (c .args .place) (t + 1) (c .index-self-place .result) s (c .pre .within) e, c .free-trays .ensures, c .if-free-trays-shut-below .taken)
+    λ s e. omega (arith, c .shut-below .ensures, told v (c .args .place) (t + 1) (c .index-self-place .result) s (c .pre .within) e, c .free-trays .ensures .value, c .if-free-trays-shut-below .taken)
     in
     record {
       answer = λ s e id f. sym (retarget-few m id t s (c .if-target-gt15 .left) (few s e));
@@ -55,7 +55,7 @@ open-slots-requires c κs =
       within = c .pre .within;
       few = omega (arith, c .if-target-gt15 .left);
       stands = c .pre .stands;
-      room = omega (arith, shut, c .shut-below .ensures, told v p n (c .index-self-place .result) (s .0) (c .pre .within) (s .1), c .free-trays .ensures, c .if-free-trays-shut-below .left);
+      room = omega (arith, shut, c .shut-below .ensures, told v p n (c .index-self-place .result) (s .0) (c .pre .within) (s .1), c .free-trays .ensures .value, c .if-free-trays-shut-below .left);
     }
 
 pub returns : need.returns
@@ -66,7 +66,7 @@ returns c =
     let t = c .args .target in
     let h : p < length (m .sessions) = omega (arith, v .whole, length-map (v .sessions) (session-model (v .trays)), c .pre .within) in
     let room : (s : SessionM) → session-at m p ≡ Some s → shut-up-to s t ≤ free-trays m =
-    λ s e. omega (arith, c .shut-below .ensures, told v p (t + 1) (c .index-self-place .result) s (c .pre .within) e, c .free-trays .ensures, c .if-free-trays-shut-below .left)
+    λ s e. omega (arith, c .shut-below .ensures, told v p (t + 1) (c .index-self-place .result) s (c .pre .within) e, c .free-trays .ensures .value, c .if-free-trays-shut-below .left)
     in
     let n =
     c .aim .ensures
