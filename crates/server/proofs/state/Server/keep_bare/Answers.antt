@@ -32,10 +32,13 @@ ghost-self c =
     let hs = nth-getD ss p (c .index-self-place-2 .result) h in
     let a = c .put .ensures in
     let e = c .conclude-bare .ensures in
-    let st = stands-here (v .trays) ss p s hs (holds-here (λ m. is-bare (slot-at m i)) (session-at (model v) p) (c .pre .bare) .0) in
-    ((length-set _ _ _ ∙ v .whole .0, v .whole .1, v .whole .2),
-    (marked-kept ss p i s _ x _ hs hx st (a .slots) (a .standing) (v .owners) (v .marked) (e .live) (e .tray),
-    (counted-kept ss p i s _ x _ hs hx st (a .slots) (a .standing) (v .owners) (v .counted) (e .live), tt)))
+    let st = stands-here (v .trays) ss p s hs (holds-here (λ m. is-bare (slot-at m i)) (session-at (model v) p) (c .pre .bare) .0) in (
+      (length-set _ _ _ ∙ v .whole .0, v .whole .1, v .whole .2),
+      (
+        marked-kept ss p i s _ x _ hs hx st (a .slots) (a .standing) (v .owners) (v .marked) (e .live) (e .tray),
+        (counted-kept ss p i s _ x _ hs hx st (a .slots) (a .standing) (v .owners) (v .counted) (e .live), tt),
+      ),
+    )
 
 pub returns : need.returns
 returns c =
