@@ -7,19 +7,18 @@ use native.Mathlib.Omega.{arith}
 use borrow.Author.Tests.{clash}
 use lib.ListN.{length, getD, set}
 use Rattle.std.specs.Options.{Cases, isSome, mapped}
-use Rattle.std.specs.declared.result.Result.{Result}
 use Rattle.std.specs.declared.result.Result.the-variants.{Ok, Err}
 use Rattle.service.specs.Service.{ServiceModel}
 use Rattle.std.specs.declared.option.Option.{Option}
 use Rattle.std.specs.declared.option.Option.the-variants.{Some, None}
 use Rattle.common.specs.Search.{lowest-at, when-found}
 use Rattle.slots.proofs.Slots.{lowest-some, lowest-map}
-use Rattle.wire.specs.Wire.{SessionId, same-id, Refusal, no-work, not-standing}
+use Rattle.wire.specs.Wire.{SessionId, same-id, no-work, not-standing}
 use Rattle.wire.specs.Models.{id-model}
 use Rattle.wire.specs.declared.messages.SessionId.{SessionId as CodeId}
 use Rattle.server.specs.declared.records.Tray.{Tray}
 use Rattle.server.specs.declared.records.Session.{Session}
-use Rattle.server.specs.Server.{SessionM, ServerM, Work, Run, has-id, place-of, session-of, with-session, works-at, is-in-hand, run-slot, run-work, resume-work, set-work-aside}
+use Rattle.server.specs.Server.{SessionM, ServerM, Work, has-id, place-of, session-of, with-session, works-at, is-in-hand, run-slot, run-work, resume-work, set-work-aside}
 use Rattle.server.specs.Models.{standing-model, session-model, bears}
 use Rattle.server.specs.Places.{session-at, change-at}
 use Rattle.server.proofs.Changes.{with-places}

@@ -5,22 +5,22 @@ use mathlib.Core.Bool.{Bool, true, false, cond, not, _&&_}
 use mathlib.Core.Logic.{⊎-elim}
 use Prim.Native.Nat.{ℕ, zero, suc, _+_, _<_, _≤_}
 use native.Mathlib.Omega.{arith}
-use lib.Dec.{ltb, leb, eqb}
+use lib.Dec.{ltb, eqb}
 use lib.ListN.{length, getD, set, replicate}
 use Rattle.std.specs.declared.option.Option.{Option}
 use Rattle.std.specs.declared.option.Option.the-variants.{Some, None}
 use Rattle.std.specs.declared.result.Result.{Result}
 use Rattle.std.specs.declared.result.Result.the-variants.{Ok, Err}
-use Rattle.std.proofs.shelf.Lists.{getD-set-same, getD-set-other, getD-past, set-past, length-set}
-use Rattle.std.proofs.shelf.Tests.{cond-true, cond-false, cases-eq, cases-lt, le-ltb, and-right, and-left, and-from, not-from-false, ltb-false}
+use Rattle.std.proofs.shelf.Lists.{getD-set-same, getD-set-other, set-past, length-set}
+use Rattle.std.proofs.shelf.Tests.{cases-eq, cases-lt, le-ltb, and-right, and-from, not-from-false, ltb-false}
 use Rattle.common.specs.Bytes.{Bytes}
 use Rattle.common.specs.Search.{when-found, lowest-at}
 use Rattle.slots.specs.Slots.{front-changed}
 use Rattle.slots.proofs.Slots.{front-length}
 use Rattle.wire.specs.Wire.{SessionId, Request, Refusal, refusing, read-request, high-target, no-place, no-count, few-trays, not-standing, no-work}
 use Rattle.service.specs.Service.{ServiceModel}
-use Rattle.server.specs.Server.{SlotM, SessionM, ServerM, Verdict, refuse, repeat, new, Serving, Work, Run, says, new-slot, with-open, with-slot, slot-at, place-of, session-of, with-session, new-session, new-id, free-trays, is-vacant, opened-in, open-in, open-session, retarget-in, retarget-session, close-session, retargeted, after-call, serve, serve-by, serve-read, verdict, accepted, finished, shuts, run-open, is-bare, is-in-hand, works-at, run-slot, run-work, resume-work, server-after, shut-up-to}
-use Rattle.server.specs.Calls.{new-server, after-opening}
+use Rattle.server.specs.Server.{SlotM, SessionM, ServerM, Verdict, refuse, repeat, new, Serving, Work, says, new-slot, with-open, with-slot, slot-at, place-of, session-of, with-session, new-session, new-id, free-trays, is-vacant, opened-in, open-in, open-session, retarget-in, retarget-session, close-session, retargeted, after-call, serve, serve-by, serve-read, verdict, accepted, finished, shuts, run-open, is-bare, is-in-hand, works-at, run-slot, run-work, resume-work, server-after, shut-up-to}
+use Rattle.server.specs.Calls.{after-opening}
 use Rattle.server.specs.Laws.{Manned, All-manned, Stays-manned}
 
 -- one more session

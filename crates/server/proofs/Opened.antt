@@ -3,36 +3,34 @@ use mathlib.Core.Path.{_≡_, refl, sym, ap, _∙_}
 use mathlib.Core.List.{List, [], _∷_, map}
 use mathlib.Core.Bool.{Bool, true, false, cond, not}
 use mathlib.Core.Logic.{⊎-elim}
-use Prim.Native.Nat.{ℕ, zero, suc, _+_, _-_, _<_, _≤_}
+use Prim.Native.Nat.{ℕ, _+_, _-_, _<_, _≤_}
 use native.Mathlib.Omega.{arith}
 use borrow.Author.Tests.{clash}
-use lib.Dec.{ltb, eqb}
 use lib.ListN.{length, getD, set, take, replicate}
-use Rattle.std.specs.Options.{isSome, mapped, Cases}
+use Rattle.std.specs.Options.{isSome, mapped}
 use Rattle.std.specs.shelf.Lists.{countBy, sumBy}
 use Rattle.std.specs.shelf.Maps.{nth}
 use Rattle.std.specs.declared.option.Option.{Option}
 use Rattle.std.specs.declared.option.Option.the-variants.{Some, None}
-use Rattle.std.specs.declared.result.Result.{Result}
 use Rattle.std.specs.declared.result.Result.the-variants.{Ok, Err}
 use Rattle.std.proofs.shelf.Lists.{getD-set-same, set-set, map-set, take-map, length-take-le}
 use Rattle.std.proofs.shelf.Sums.{sumBy-set, countBy-le-length}
-use Rattle.std.proofs.shelf.Tests.{cond-true, cond-false, cases-eq, le-ltb, lt-ltb, ne-eqb, not-from-false}
+use Rattle.std.proofs.shelf.Tests.{cond-true, cond-false, cases-eq, le-ltb, lt-ltb, ne-eqb}
 use Rattle.common.specs.Search.{when-found, lowest-at}
 use Rattle.slots.proofs.Slots.{lowest-some, lowest-map, front-map}
-use Rattle.wire.specs.Wire.{SessionId, Refusal, high-target, no-place, no-count, few-trays, not-standing}
+use Rattle.wire.specs.Wire.{SessionId, high-target, no-place, few-trays, not-standing}
 use Rattle.wire.specs.Models.{id-model}
 use Rattle.server.specs.declared.records.Tray.{Tray}
 use Rattle.server.specs.declared.records.Owner.{Owner}
 use Rattle.server.specs.declared.records.Slot.{Slot}
 use Rattle.server.specs.declared.records.Session.{Session}
-use Rattle.server.specs.Server.{SlotM, SessionM, ServerM, Opening, new-slot, new-id, with-open, open-slots, free-trays, is-vacant, opened-in, open-in, open-session, shut-up-to, retargeted, retarget-in, retarget-session, close-session, place-of, session-of, with-session}
-use Rattle.server.specs.Trays.{tray-in, tray-of, owner, Marked, is-free, slots-open}
+use Rattle.server.specs.Server.{SlotM, SessionM, ServerM, new-slot, new-id, with-open, open-slots, free-trays, is-vacant, opened-in, open-in, open-session, shut-up-to, retargeted, retarget-in, retarget-session, close-session, place-of, session-of, with-session}
+use Rattle.server.specs.Trays.{tray-in, owner, Marked, is-free, slots-open}
 use Rattle.server.specs.Models.{slot-in, standing-model, session-model}
 use Rattle.server.specs.Places.{emptied, session-at, change-at, change-in, at-front, shut-below, begun, with-target, vacated}
-use Rattle.server.proofs.Trays.{nth-within, nth-is, nth-set-same, nth-set-other, session-here, sum-map-is, count-none, open-slots-is}
-use Rattle.server.proofs.Changes.{with-places, change-twice, at-change, sixteen}
-use Rattle.server.proofs.Found.{session-none, session-found, with-found, changed-found, found}
+use Rattle.server.proofs.Trays.{nth-within, nth-is, nth-set-same, nth-set-other, session-here, sum-map-is, count-none}
+use Rattle.server.proofs.Changes.{with-places}
+use Rattle.server.proofs.Found.{session-none, session-found, found}
 
 -- a place gets a record that owns no tray
 module _ (ss : List Session) (os : List (Option Owner)) (p : ℕ) (s s′ : Session) (hs : nth ss p ≡ Some s) where

@@ -6,21 +6,20 @@ use mathlib.Core.Logic.{⊎-elim}
 use Prim.Native.Nat.{ℕ, zero, suc, _+_, _<_, _≤_}
 use native.Mathlib.Omega.{arith}
 use borrow.Author.Tests.{clash}
-use lib.Dec.{ltb, leb, eqb}
+use lib.Dec.{leb, eqb}
 use lib.ListN.{length, getD, set}
 use Rattle.std.specs.shelf.Text.{sameBytes}
 use Rattle.std.specs.declared.option.Option.{Option}
 use Rattle.std.specs.declared.option.Option.the-variants.{Some, None}
-use Rattle.std.specs.declared.result.Result.{Result}
 use Rattle.std.specs.declared.result.Result.the-variants.{Ok, Err}
 use Rattle.std.proofs.shelf.Lists.{getD-set-same, getD-past, set-past, length-set}
 use Rattle.std.proofs.shelf.Tests.{cond-true, cond-false, cases-lt, and-from, and-left, and-right, and-parts, not-from-false, eq-eqb, ne-eqb, eqb-true, le-ltb}
 use Rattle.common.specs.Bytes.{Bytes}
 use Rattle.common.specs.Search.{when-found, lowest-at}
 use Rattle.slots.proofs.Slots.{lowest-some}
-use Rattle.wire.specs.Wire.{SessionId, Request, Refusal, refusing, read-request, no-work}
+use Rattle.wire.specs.Wire.{SessionId, Request, refusing, read-request, no-work}
 use Rattle.service.specs.Service.{ServiceModel}
-use Rattle.server.specs.Server.{Last, never, in-progress, kept, not-kept, SlotM, SessionM, ServerM, Verdict, refuse, repeat, new, Served, fault, says, old, work, Serving, Work, Run, new-slot, with-slot, slot-at, has-id, place-of, session-of, with-session, same-flag, is-working, is-repeat, is-new, is-same, judge-last, judge-repeat, judge-new, judge, verdict, accepted, outcome-reply, serve-by, serve-read, serve, is-bare, is-kept, run-open, run-highest, finished, works-at, is-in-hand, run-bytes, run-slot, run-work}
+use Rattle.server.specs.Server.{Last, never, in-progress, kept, not-kept, SlotM, SessionM, ServerM, Verdict, refuse, repeat, new, says, old, work, Serving, Work, Run, new-slot, with-slot, slot-at, has-id, place-of, session-of, with-session, same-flag, is-working, is-repeat, is-new, is-same, judge-last, judge-repeat, judge-new, judge, verdict, accepted, outcome-reply, serve-by, serve-read, serve, is-kept, run-open, run-highest, finished, works-at, is-in-hand, run-bytes, run-slot, run-work}
 use Rattle.server.specs.Laws.{Repeats}
 use Rattle.server.proofs.Slots.{new-in}
 

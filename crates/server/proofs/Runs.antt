@@ -1,13 +1,12 @@
 -- The call at a slot, from the records to the model.
 use mathlib.Core.Path.{_≡_, refl, sym, ap, _∙_}
-use mathlib.Core.List.{List, [], _∷_, map}
-use mathlib.Core.Bool.{Bool, true, false, cond, not, _&&_}
-use Prim.Native.Nat.{ℕ, _+_, _<_, _≤_}
+use mathlib.Core.Bool.{Bool, true, false, not, _&&_}
+use Prim.Native.Nat.{ℕ, _<_}
 use native.Mathlib.Omega.{arith}
 use borrow.Author.Tests.{clash}
 use lib.Dec.{eqb, ltb}
-use lib.ListN.{length, getD, set}
-use Rattle.std.specs.Options.{isSome, mapped}
+use lib.ListN.{length, getD}
+use Rattle.std.specs.Options.{isSome}
 use Rattle.std.specs.shelf.Maps.{nth}
 use Rattle.std.specs.declared.option.Option.{Option}
 use Rattle.std.specs.declared.option.Option.the-variants.{Some, None}
@@ -21,12 +20,12 @@ use Rattle.server.specs.declared.records.Tray.{Tray}
 use Rattle.server.specs.declared.records.Slot.{Slot}
 use Rattle.server.specs.declared.records.Session.{Session}
 use Rattle.server.specs.declared.state.Server.{Server}
-use Rattle.server.specs.Server.{SlotM, SessionM, ServerM, slot-at, with-slot, with-open, is-bare, is-working, shuts, run-open, run-highest, finished}
+use Rattle.server.specs.Server.{SlotM, SessionM, ServerM, slot-at, with-slot, with-open, is-bare, shuts, run-open, run-highest, finished}
 use Rattle.server.specs.Models.{model, slot-model, slot-in, standing-model, no-tray}
 use Rattle.server.specs.Places.{session-at, change-at, at-slot, bare-in, asks-in, settled, ended, concluded}
 use Rattle.server.proofs.Slots.{bare-is}
 use Rattle.server.proofs.Trays.{stands-here, session-here, session-is, slot-is, target-is}
-use Rattle.server.proofs.Changes.{with-places, change-twice, change-same, holds-here, holds-from}
+use Rattle.server.proofs.Changes.{with-places, change-twice, change-same, holds-here}
 
 module _ (v : Server) (p i : ℕ) (d : Session) (x : Slot) (low : p < 8) (hx : nth (getD (v .sessions) p d .slots) i ≡ Some x) where
   abbrev s : Session

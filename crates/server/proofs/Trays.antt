@@ -1,9 +1,9 @@
 -- One slot at one place: what its change does to the marks of the trays, to their count, and to the model.
 use mathlib.Core.Path.{_≡_, refl, sym, ap, _∙_}
 use mathlib.Core.List.{List, [], _∷_, map}
-use mathlib.Core.Bool.{Bool, true, false, cond, not, _&&_}
+use mathlib.Core.Bool.{Bool, true, false, cond, not}
 use mathlib.Core.Logic.{_⊎_, inl, inr, ⊎-elim}
-use Prim.Native.Nat.{ℕ, zero, suc, _+_, _-_, _<_, _≤_}
+use Prim.Native.Nat.{ℕ, zero, suc, _+_, _-_, _<_}
 use native.Mathlib.Omega.{arith}
 use borrow.Author.Tests.{clash}
 use lib.ListN.{length, getD, set, replicate}
@@ -13,9 +13,8 @@ use Rattle.std.specs.shelf.Maps.{nth}
 use Rattle.std.specs.declared.option.Option.{Option}
 use Rattle.std.specs.declared.option.Option.the-variants.{Some, None}
 use Rattle.std.proofs.shelf.Lists.{getD-map, getD-default, getD-set-same, getD-set-other}
-use Rattle.std.proofs.shelf.Maps.{nth-getD, nth-past}
 use Rattle.std.proofs.shelf.Sums.{sumBy-set, sumBy-cons}
-use Rattle.std.proofs.shelf.Tests.{cond-true, cond-false, cases-eq, cases-lt}
+use Rattle.std.proofs.shelf.Tests.{cond-true, cond-false, cases-eq}
 use Rattle.common.specs.Search.{when-found, lowest-at}
 use Rattle.wire.specs.Wire.{Request}
 use Rattle.wire.specs.Models.{id-model}
@@ -24,7 +23,7 @@ use Rattle.server.specs.declared.records.Owner.{Owner}
 use Rattle.server.specs.declared.records.Slot.{Slot}
 use Rattle.server.specs.declared.records.Session.{Session}
 use Rattle.server.specs.declared.state.Server.{Server}
-use Rattle.server.specs.Server.{SlotM, SessionM, new-slot, slot-at, with-slot, open-slots, free-trays, new}
+use Rattle.server.specs.Server.{SlotM, SessionM, new-slot, slot-at, open-slots, free-trays, new}
 use Rattle.server.specs.Trays.{tray-held, tray-in, tray-of, owner, Marked, is-free, slots-open, stands-in, shut-in}
 use Rattle.server.specs.Models.{no-tray, slot-model, slot-in, standing-model, session-model, model}
 use Rattle.server.specs.Places.{change-in, at-slot, verdict-at}

@@ -2,7 +2,6 @@
 use mathlib.Core.Path.{refl}
 use mathlib.Core.List.{List, map}
 use mathlib.Core.Bool.{Bool, cond, _&&_}
-use Prim.Native.Nat.{ℕ}
 use lib.ListN.{getD, take, replicate}
 use Rattle.std.specs.declared.option.Option.{Option}
 use Rattle.std.specs.declared.option.Option.the-variants.{Some, None}
@@ -15,7 +14,6 @@ use Rattle.server.specs.declared.records.Tray.{Tray}
 use Rattle.server.specs.declared.records.Last.{Last as CodeLast}
 use Rattle.server.specs.declared.records.Last.the-variants.{Never, InProgress, Kept, NotKept}
 use Rattle.server.specs.declared.records.Slot.{Slot}
-use Rattle.server.specs.declared.answers.Outcome.{Outcome}
 use Rattle.server.specs.declared.answers.Answer.{Answer}
 use Rattle.server.specs.declared.answers.Verdict.{Verdict as CodeVerdict}
 use Rattle.server.specs.declared.answers.Verdict.the-variants.{Refuse, Repeat, New}

@@ -1,6 +1,6 @@
 -- Smaller steps, at one slot or at one place, that the server's calls are made of.
 use mathlib.Core.List.{List, []}
-use mathlib.Core.Bool.{Bool, true, false, cond, not}
+use mathlib.Core.Bool.{Bool, false, cond, not}
 use Prim.Native.Nat.{ℕ, _+_}
 use lib.ListN.{getD, set, take, replicate}
 use Rattle.std.specs.Options.{mapped}

@@ -1,9 +1,9 @@
 ghost use mathlib.Core.Path.{_≡_};
-ghost use mathlib.Core.Bool.{true, false, cond, _&&_};
+ghost use mathlib.Core.Bool.{true, false, _&&_};
 ghost use mathlib.Core.List.{List, []};
 ghost use Prim.Native.Nat.{ℕ, _≤_, _<_};
-ghost use lib.Dec.{eqb, ltb};
-ghost use lib.ListN.{length, take};
+ghost use lib.Dec.{ltb};
+ghost use lib.ListN.{length};
 ghost use Rattle.wire.specs.Models.{request-model};
 ghost use Rattle.server.specs.Server.{new-slot, is-working, is-same, judge-last, judge-repeat, is-repeat, is-new, is-bare, judge-new, bad-highest, judge, accepted, with-open};
 ghost use Rattle.server.specs.Models.{held, last-model, slot-model, verdict-model};

@@ -1,7 +1,6 @@
 //! The slot table: one thing for every kind of record, held over records that its caller lends.
 ghost use mathlib.Core.Path.{_≡_};
 ghost use mathlib.Core.Bool.{Bool, cond};
-ghost use Prim.Native.Nat.{ℕ};
 ghost use lib.ListN.{set};
 ghost use denote.Ref.{name};
 ghost use Rattle.std.specs.declared.option.Option.the-variants.{Some, None};

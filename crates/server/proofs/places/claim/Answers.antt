@@ -12,7 +12,7 @@ use Rattle.slots.proofs.Slots.{Lowest, lowest-some}
 use Rattle.server.specs.declared.records.Session.{Session}
 use Rattle.server.specs.Server.{with-open}
 use Rattle.server.specs.Trays.{Marked, is-free, slots-open, owner}
-use Rattle.server.specs.Models.{slot-in, slot-model, no-tray}
+use Rattle.server.specs.Models.{no-tray}
 use Rattle.server.proofs.Slots.{open-already}
 use Rattle.server.proofs.Trays.{standing-of, marked-opened, counted-opened, free-opened, shut-one, shut-none, placed, unplaced, none-lowest, free-none}
 use Rattle.server.proofs.places.claim.Needs as need

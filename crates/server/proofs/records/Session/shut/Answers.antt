@@ -1,5 +1,4 @@
 use mathlib.Core.Path.{refl, ap}
-use mathlib.Core.List.{List}
 use lib.ListN.{getD, replicate}
 use Rattle.std.specs.declared.option.Option.the-variants.{Some, None}
 use Rattle.std.proofs.shelf.Tests.{cond-false}

@@ -1,6 +1,6 @@
-use mathlib.Core.Path.{_≡_, ap, sym, _∙_}
+use mathlib.Core.Path.{_≡_, ap, _∙_}
 use mathlib.Core.List.{List}
-use Prim.Native.Nat.{_<_, _≤_}
+use Prim.Native.Nat.{_<_}
 use native.Mathlib.Omega.{arith}
 use lib.ListN.{length, getD, length-set}
 use Rattle.std.specs.shelf.Maps.{nth}
@@ -11,8 +11,13 @@ use Rattle.std.proofs.shelf.Maps.{nth-getD}
 use Rattle.wire.specs.Models.{request-model}
 use Rattle.server.specs.declared.records.Session.{Session}
 use Rattle.server.specs.Server.{SessionM, ServerM, accepted}
+use Rattle.server.specs.Models.{model}
+use Rattle.server.proofs.Slots.{new-at}
 use Rattle.server.proofs.Trays.{new-live, marked-kept, counted-kept, stored}
 use Rattle.server.proofs.state.Server.accept_at.Needs as need
+
+pub slot-kept-requires : need.slot-kept-requires
+slot-kept-requires c κs = let n = new-at (model (c .args .self .now)) (c .args .place) (request-model (c .args .request)) (c .pre .fresh) in omega (arith, n .1)
 
 pub accept-requires : need.accept-requires
 accept-requires c κs =

@@ -1,10 +1,9 @@
-use mathlib.Core.Path.{_≡_, sym, ap, _∙_}
+use mathlib.Core.Path.{sym, ap, _∙_}
 use Rattle.std.specs.declared.option.Option.the-variants.{Some}
 use Rattle.std.specs.declared.result.Result.the-variants.{Ok}
 use Rattle.wire.specs.Models.{id-model}
-use Rattle.server.specs.Server.{SlotM, Run, slot-at, outcome-reply, run-bytes, finished, with-slot, with-session}
-use Rattle.server.specs.Models.{model, held, answer-model}
-use Rattle.server.specs.Places.{change-at}
+use Rattle.server.specs.Server.{outcome-reply, finished, with-slot, with-session}
+use Rattle.server.specs.Models.{model, held}
 use Rattle.server.proofs.Found.{changed-found}
 use Rattle.server.proofs.Runs.{slot-of}
 use Rattle.server.proofs.state.Server.answer_at.Needs as need

@@ -1,12 +1,12 @@
-use mathlib.Core.Path.{_≡_, refl, sym, ap, _∙_}
-use mathlib.Core.Bool.{true, false, cond, not}
+use mathlib.Core.Path.{_≡_, sym, ap, _∙_}
+use mathlib.Core.Bool.{true, false, not}
 use mathlib.Core.List.{[]}
 use lib.ListN.{getD}
 use Rattle.std.specs.declared.option.Option.the-variants.{Some}
 use Rattle.std.proofs.shelf.Tests.{cond-true, cond-false, not-from-false}
 use Rattle.slots.specs.Slots.{highest-at}
-use Rattle.server.specs.Server.{SlotM, SessionM, slot-at, is-bare, with-slot}
-use Rattle.server.specs.Models.{model, held}
+use Rattle.server.specs.Server.{SlotM, SessionM, slot-at, is-bare}
+use Rattle.server.specs.Models.{model}
 use Rattle.server.specs.Places.{session-at, change-at, ended}
 use Rattle.server.proofs.Changes.{holds-from}
 use Rattle.server.proofs.Runs.{bare-told, highest-told, target-told, end-state}

@@ -1,11 +1,9 @@
-use mathlib.Core.Path.{_≡_, _∙_}
-use Prim.Native.Nat.{_<_}
+use mathlib.Core.Path.{_∙_}
 use native.Mathlib.Omega.{arith}
-use Rattle.std.specs.Options.{Cases}
 use Rattle.std.proofs.shelf.Lists.{length-map}
 use Rattle.wire.specs.Models.{id-model}
 use Rattle.server.specs.Models.{model, session-model}
-use Rattle.server.proofs.Found.{find-is, found, found-low, found-stands}
+use Rattle.server.proofs.Found.{find-is, found-low, found-stands}
 use Rattle.server.proofs.state.Server.find.Needs as need
 
 pub returns : need.returns

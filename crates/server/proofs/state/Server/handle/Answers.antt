@@ -1,4 +1,4 @@
-use mathlib.Core.Path.{_≡_, sym, ap, _∙_}
+use mathlib.Core.Path.{sym, ap, _∙_}
 use Rattle.wire.specs.Models.{request-model}
 use Rattle.common.specs.Search.{when-found}
 use Rattle.wire.specs.Wire.{refusing}

@@ -1,4 +1,4 @@
-use mathlib.Core.Path.{_≡_, refl, sym, ap, _∙_}
+use mathlib.Core.Path.{_≡_, sym, ap, _∙_}
 use mathlib.Core.Bool.{true}
 use Prim.Native.Nat.{_+_, _<_, _≤_}
 use native.Mathlib.Omega.{arith}
@@ -6,8 +6,7 @@ use lib.ListN.{length}
 use Rattle.std.specs.Options.{isSome}
 use Rattle.std.specs.declared.result.Result.the-variants.{Ok}
 use Rattle.std.proofs.shelf.Lists.{length-map}
-use Rattle.wire.specs.Models.{id-model}
-use Rattle.server.specs.Server.{Opening, new-id, with-open}
+use Rattle.server.specs.Server.{new-id, with-open}
 use Rattle.server.specs.Models.{model, session-model}
 use Rattle.server.specs.Places.{session-at, change-at, at-front, shut-below}
 use Rattle.server.specs.Server.{free-trays}

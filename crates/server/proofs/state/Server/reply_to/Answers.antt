@@ -1,8 +1,7 @@
-use mathlib.Core.Path.{_≡_, sym, ap, _∙_}
+use mathlib.Core.Path.{sym, ap, _∙_}
 use Prim.Native.Nat.{_<_}
 use native.Mathlib.Omega.{arith}
-use lib.ListN.{length, getD, take}
-use Rattle.std.specs.declared.option.Option.the-variants.{Some}
+use lib.ListN.{length, take}
 use Rattle.std.proofs.shelf.Lists.{getD-default}
 use Rattle.server.specs.declared.records.Tray.{Tray}
 use Rattle.server.specs.Server.{SlotM}

@@ -1,13 +1,10 @@
-use mathlib.Core.Path.{_≡_, refl, sym, ap, _∙_}
-use mathlib.Core.Bool.{Bool, true, false, cond, _&&_}
+use mathlib.Core.Path.{sym, ap, _∙_}
+use mathlib.Core.Bool.{true, false}
 use lib.ListN.{getD}
-use Rattle.std.specs.declared.option.Option.the-variants.{Some}
 use Rattle.wire.specs.Models.{id-model}
 use Rattle.server.specs.Server.{works-at, server-after, content-after}
 use Rattle.common.specs.Search.{when-found}
 use Rattle.server.specs.Models.{model, standing-model}
-use Rattle.server.specs.Places.{session-at}
-use Rattle.server.proofs.Changes.{holds-from}
 use Rattle.server.proofs.Found.{resume-none, resume-by}
 use Rattle.server.proofs.Runs.{session-there}
 use Rattle.server.proofs.state.Server.resume.Needs as need

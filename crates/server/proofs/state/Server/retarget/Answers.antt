@@ -1,4 +1,4 @@
-use mathlib.Core.Path.{_≡_, refl, sym, ap, _∙_}
+use mathlib.Core.Path.{sym, ap, _∙_}
 use Rattle.wire.specs.Models.{id-model}
 use Rattle.server.specs.Server.{after-call}
 use Rattle.server.specs.Models.{model}

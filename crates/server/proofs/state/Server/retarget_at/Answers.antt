@@ -1,4 +1,4 @@
-use mathlib.Core.Path.{_≡_, refl, sym, ap, _∙_}
+use mathlib.Core.Path.{_≡_, sym, ap, _∙_}
 use mathlib.Core.Bool.{true, not}
 use Prim.Native.Nat.{ℕ, _+_, _<_, _≤_}
 use native.Mathlib.Omega.{arith}
@@ -8,7 +8,7 @@ use Rattle.std.specs.declared.option.Option.the-variants.{Some}
 use Rattle.std.specs.declared.result.Result.the-variants.{Ok}
 use Rattle.std.proofs.shelf.Lists.{length-map}
 use Rattle.std.proofs.shelf.Maps.{nth-getD}
-use Rattle.server.specs.Server.{SlotM, SessionM, ServerM, free-trays, place-of, shut-up-to, with-open, after-call, retargeted, retarget-in}
+use Rattle.server.specs.Server.{SlotM, SessionM, free-trays, place-of, shut-up-to, with-open, after-call, retargeted, retarget-in}
 use Rattle.common.specs.Search.{when-found}
 use Rattle.wire.specs.Wire.{SessionId}
 use Rattle.server.specs.declared.records.Slot.{Slot}

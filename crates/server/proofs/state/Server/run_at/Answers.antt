@@ -1,11 +1,11 @@
-use mathlib.Core.Path.{_≡_, refl, sym, ap, _∙_}
+use mathlib.Core.Path.{_≡_, ap, _∙_}
 use Prim.Native.Nat.{_<_}
 use native.Mathlib.Omega.{arith}
 use lib.ListN.{length}
 use Rattle.std.proofs.shelf.Lists.{length-map}
 use Rattle.std.specs.Options.{isSome, mapped}
 use Rattle.std.specs.declared.option.Option.the-variants.{Some}
-use Rattle.server.specs.Server.{SessionM, slot-at, run-bytes, run-content}
+use Rattle.server.specs.Server.{SessionM, run-bytes, run-content}
 use Rattle.server.specs.Models.{model, session-model}
 use Rattle.server.specs.Places.{session-at, settled}
 use Rattle.server.proofs.Changes.{at-change, some-mapped, works-here, sixteen}

@@ -1,15 +1,12 @@
-use mathlib.Core.Path.{_≡_, refl, sym, ap, _∙_}
-use mathlib.Core.Bool.{Bool, true, false, cond, _&&_}
+use mathlib.Core.Path.{sym, ap, _∙_}
+use mathlib.Core.Bool.{true, false}
 use lib.Dec.{eqb}
 use lib.ListN.{getD}
-use Rattle.std.specs.declared.option.Option.the-variants.{Some}
 use Rattle.std.proofs.shelf.Tests.{and-parts}
 use Rattle.wire.specs.Models.{id-model}
-use Rattle.server.specs.Server.{Work, SessionM, slot-at, works-at, server-after, content-after}
+use Rattle.server.specs.Server.{slot-at, works-at, server-after, content-after}
 use Rattle.common.specs.Search.{when-found}
 use Rattle.server.specs.Models.{model, standing-model}
-use Rattle.server.specs.Places.{session-at}
-use Rattle.server.proofs.Changes.{holds-from}
 use Rattle.server.proofs.Found.{run-none, run-by}
 use Rattle.server.proofs.Runs.{session-there}
 use Rattle.server.proofs.state.Server.run_named.Needs as need

@@ -1,4 +1,4 @@
-use mathlib.Core.Path.{_≡_, sym, ap, _∙_}
+use mathlib.Core.Path.{ap, _∙_}
 use Rattle.server.specs.Server.{serve, serve-read}
 use Rattle.server.specs.Models.{model}
 use Rattle.server.proofs.state.Server.serve.Needs as need

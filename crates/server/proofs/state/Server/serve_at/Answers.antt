@@ -1,4 +1,4 @@
-use mathlib.Core.Path.{_≡_, sym, ap, _∙_}
+use mathlib.Core.Path.{ap, _∙_}
 use Rattle.wire.specs.Models.{request-model}
 use Rattle.wire.specs.Wire.{Reply}
 use Rattle.server.specs.Server.{ServerM, Serving, Work, says, work, serve-by, accepted}

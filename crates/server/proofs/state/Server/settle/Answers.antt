@@ -1,4 +1,4 @@
-use mathlib.Core.Path.{_≡_, sym, ap, _∙_}
+use mathlib.Core.Path.{sym, ap, _∙_}
 use Rattle.server.specs.Models.{model}
 use Rattle.server.specs.Places.{at-slot, settled, emptied}
 use Rattle.server.proofs.Changes.{with-places, change-same, change-none, settled-shut, settled-same, works-here}

@@ -1,4 +1,4 @@
-use mathlib.Core.Path.{sym, _∙_}
+use mathlib.Core.Path.{_∙_}
 use Rattle.wire.specs.Models.{id-model}
 use Rattle.server.specs.Models.{model}
 use Rattle.server.proofs.Opened.{stands-of}
