@@ -8,3 +8,4 @@ pub mod Fitting
 pub mod Worked
 pub mod Manned
 pub mod Repeated
+pub mod Counted

@@ -5,3 +5,4 @@ pub mod Places
 pub mod Calls
 pub mod Fits
 pub mod Laws
+pub mod Counts

@@ -2,6 +2,7 @@
 pub mod answers;
 mod bodies;
 mod calls;
+mod counts;
 mod judging;
 pub mod laws;
 pub mod orders;

@@ -1,7 +1,7 @@
 -- What is done to the code's slots, seen on those of the model.
 use mathlib.Core.Path.{_≡_, refl, sym, ap, _∙_}
-use mathlib.Core.List.{List, map}
-use mathlib.Core.Bool.{Bool, true}
+use mathlib.Core.List.{List, [], _∷_, map}
+use mathlib.Core.Bool.{Bool, true, false, cond}
 use native.Mathlib.Omega.{arith}
 use Prim.Native.Nat.{ℕ, _<_, _≤_, _+_}
 use lib.ListN.{length, getD, set}
@@ -58,3 +58,11 @@ module _ (es : List End) where
   staled-shown h =
       let within : length (map end-model es) ≤ 16 = omega (arith, length-map es end-model) in
       front-shown end-model staled stale end-staled 16 es ∙ front-map stale 16 (map end-model es) within
+
+one : (b : Bool) → cond b 1 0 ≤ 1
+one true = omega arith
+one false = omega arith
+
+pub count-low : {X : Type 0} (test : X → Bool) (xs : List X) → count-where test xs ≤ length xs
+count-low test [] = omega arith
+count-low test (x ∷ xs) = omega (arith, one (test x), count-low test xs)

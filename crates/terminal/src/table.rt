@@ -1,5 +1,5 @@
 ghost use mathlib.Core.Path.{_≡_};
-ghost use Prim.Native.Nat.{_<_};
+ghost use Prim.Native.Nat.{_≤_, _<_};
 ghost use lib.ListN.{length};
 ghost use Rattle.common.specs.Search.{lowest-at};
 ghost use Rattle.slots.specs.Slots.{highest-at};
@@ -58,7 +58,8 @@ impl Terminal {
 
     /// How many calls are open.
     pub fn open_calls(&self) -> usize
-        ensures { λ r. ⌜ r ≡ count-where is-busy (terminal-model (now (self .entry)) .slots) ⌝ }
+        ensures value { λ r. ⌜ r ≡ count-where is-busy (terminal-model (now (self .entry)) .slots) ⌝ }
+        ensures low { λ r. ⌜ r ≤ 16 ⌝ }
     {
         count_active(&self.ends)
     }
