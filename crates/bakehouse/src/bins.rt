@@ -1,5 +1,5 @@
 ghost use mathlib.Core.Path.{_≡_};
-ghost use Rattle.bakehouse.specs.Desk.{bin-number};
+ghost use Rattle.bakehouse.specs.Stock.{bin-number};
 
 /// The bins that the bakehouse has in use.
 #[derive(Clone, Copy)]

@@ -1,117 +1,81 @@
-//! A withdrawal at the bakehouse's desk, told line by line: the book, the messages as bytes, the answer, the book again.
+//! A day at the bakehouse, told line by line: what each call came to, and why.
 mod bins;
-mod desk;
-mod exchange;
-mod faults;
+mod cards;
+mod counter;
 mod hex;
+mod late;
+mod post;
+mod prints;
+mod shift;
+mod withdrawal;
 
-use bins::Bin;
-use desk::Withdrawal;
-use desk::withdraw;
-use faults::Fault;
-use faults::PrintFault;
-use faults::WireFault;
-use hex::Hex;
-use hex::HexDisplay;
-use ledger::Answer;
+use channel::double::DoubleChannel;
+use channel::loss::Loss;
+use channel::loss::calls::LossChannel;
+use channel::pile::shop_pile;
+use channel::pipe::Pipe;
+use channel::pipe::PipeChannel;
+use channel::shelf::Shelf;
+use channel::shelf::ShelfChannel;
 use ledger::Ledger;
-use ledger::Refused;
+use ledger::LedgerService;
+use prints::print_book;
+use shift::Shift;
 use std::io;
+use withdrawal::Withdrawal;
+use withdrawal::book_after;
+use withdrawal::opening_book;
+use withdrawal::same_book;
 
-// The book as the day begins.
-fn opening_book() -> Ledger {
-    let mut bins = [0u32; 32];
-    bins[0] = 25_000;
-    bins[1] = 8_000;
-    bins[3] = 1_200;
-    Ledger::new(bins)
-}
-
-fn print_book(rt: &LibcRuntime, title: &str, ledger: &Ledger) -> io::Result<()> {
-    println!(rt, "{title}")?;
-    for bin in Bin::IN_USE {
-        let number = bin.number();
-        let name = bin.name();
-        let grams = ledger.count(number).unwrap_or(0);
-        println!(rt, "  bin {number:>2}  {name:<6} {grams:>6} g")?;
-    }
-    let total = ledger.total();
-    println!(rt, "  in all         {total:>6} g")
-}
-
-fn reason(refused: Refused) -> &'static str {
-    match refused {
-        Refused::NotOfForm => "the body is neither a move nor a count",
-        Refused::NoSuchBin => "there is no such bin",
-        Refused::HoldsLess => "the bin holds less",
-        Refused::WouldPass => "the other bin has no room",
+// The book, and whether it is the opening one after these withdrawals, each made once.
+fn close_book(rt: &LibcRuntime, ledger: &Ledger, made: &[Withdrawal]) -> io::Result<()> {
+    print_book(rt, "The book at the end:", ledger)?;
+    if same_book(ledger, &book_after(made)) {
+        println!(rt, "  right: each withdrawal was made once")
+    } else {
+        println!(rt, "  WRONG")
     }
 }
 
-fn print_answer(
-    rt: &LibcRuntime,
-    withdrawal: Withdrawal,
-    answer: Option<Answer>,
-) -> io::Result<()> {
-    let name = withdrawal.bin.name();
-    match answer {
-        Some(Answer::Moved { from, to }) => {
-            println!(
-                rt,
-                "Done: {from} g of {name} are left, the mixer holds {to} g."
-            )
-        }
-        Some(Answer::Counted { grams }) => println!(rt, "A count, which was not asked: {grams} g."),
-        Some(Answer::Refused(refused)) => {
-            let status = refused.number();
-            let why = reason(refused);
-            println!(rt, "Refused, status {status}: {why}. Nothing was moved.")
-        }
-        None => println!(rt, "No reply of the ledger's."),
-    }
-}
-
-fn print_message(rt: &LibcRuntime, title: &str, bytes: &[u8]) -> io::Result<()> {
-    let len = bytes.len();
-    let hex = Hex(bytes);
-    println!(rt, "{title}, {len} bytes:{hex}")
-}
-
-// Makes a withdrawal, and tells what passed.
-fn tell(
-    rt: &LibcRuntime,
-    ledger: &mut Ledger,
-    withdrawal: Withdrawal,
-    number: u32,
-) -> Result<(), Fault> {
-    let grams = withdrawal.grams;
-    let bin = withdrawal.bin.number();
-    let name = withdrawal.bin.name();
+fn at_the_counter(rt: &LibcRuntime) -> io::Result<()> {
+    let replies = Loss::over(Pipe::new(), 3);
+    let mut counter = Shift::begin(opening_book(), shop_pile(), replies);
+    counter::doubled(rt, &mut counter)?;
+    counter::lost(rt, &mut counter)?;
+    counter::refused(rt, &mut counter)?;
+    counter::aside(rt, &mut counter)?;
+    counter::closed(rt, &mut counter)?;
+    counter::counted(rt, &mut counter)?;
+    counter::unkept(rt, &mut counter)?;
+    let summary = counter.house.inspect();
+    let sessions = summary.sessions;
+    let trays = summary.trays;
     println!(
         rt,
-        "Withdrawal: {grams} g of {name} from bin {bin} into the mixer."
+        "The house: {sessions} session stands, {trays} trays are free."
     )?;
-    let exchange = withdraw(ledger, withdrawal, number)?;
-    print_message(rt, "Request", exchange.request_bytes())?;
-    print_message(rt, "Reply", exchange.reply_bytes())?;
-    print_answer(rt, withdrawal, exchange.answer)?;
-    Ok(())
+    let made = [
+        counter::SALT,
+        counter::SUGAR,
+        counter::FLOUR,
+        counter::PINCH,
+    ];
+    close_book(rt, counter.house.service(), &made)
 }
 
-fn main(rt: LibcRuntime) -> Result<(), Fault> {
-    let mut ledger = opening_book();
-    print_book(&rt, "The book before:", &ledger)?;
-    let some = Withdrawal {
-        bin: Bin::Salt,
-        grams: 150,
-    };
-    tell(&rt, &mut ledger, some, 1)?;
-    print_book(&rt, "The book after:", &ledger)?;
-    let too_much = Withdrawal {
-        bin: Bin::Salt,
-        grams: 2_000,
-    };
-    tell(&rt, &mut ledger, too_much, 2)?;
-    print_book(&rt, "The book, unchanged:", &ledger)?;
-    Ok(())
+fn at_the_window(rt: &LibcRuntime) -> io::Result<()> {
+    let requests = Shelf::over(&late::CHOICES);
+    let mut window = Shift::begin(opening_book(), requests, Pipe::new());
+    late::leave_behind(rt, &mut window)?;
+    late::part_and_return(rt, &mut window)?;
+    late::turn_away(rt, &mut window)?;
+    close_book(rt, window.house.service(), &[late::FIRST, late::SECOND])
+}
+
+fn main(rt: LibcRuntime) -> io::Result<()> {
+    print_book(&rt, "The book as the day begins:", &opening_book())?;
+    at_the_counter(&rt)?;
+    at_the_window(&rt)?;
+    cards::recipe_cards(&rt)?;
+    post::channels(&rt)
 }
