@@ -121,6 +121,7 @@ pub fn aside(rt: &LibcRuntime, counter: &mut Counter) -> io::Result<()> {
     println!(rt, "Work is set aside, and resumed.")?;
     counter.order(rt, 1, true, &FLOUR.body(), "1000 g of flour")?;
     counter.hear(rt, Told::Aside, "the scale is taken, so the flour waits")?;
+    counter.inspect(rt)?;
     counter.hear(rt, Told::Run, "the repeat may not run what is in progress")?;
     let none = counter.take(rt, "that status is lost on its way")?;
     print_answer(rt, none)?;

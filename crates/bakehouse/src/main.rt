@@ -47,13 +47,7 @@ fn at_the_counter(rt: &LibcRuntime) -> io::Result<()> {
     counter::closed(rt, &mut counter)?;
     counter::counted(rt, &mut counter)?;
     counter::unkept(rt, &mut counter)?;
-    let summary = counter.house.inspect();
-    let sessions = summary.sessions;
-    let trays = summary.trays;
-    println!(
-        rt,
-        "The house: {sessions} session stands, {trays} trays are free."
-    )?;
+    counter.inspect(rt)?;
     let made = [
         counter::SALT,
         counter::SUGAR,

@@ -55,6 +55,19 @@ impl<S: Service, Q: Channel, R: Channel> Shift<S, Q, R> {
         }
     }
 
+    /// What the house holds, counted.
+    pub fn inspect(&self, rt: &LibcRuntime) -> io::Result<()> {
+        let summary = self.house.inspect();
+        let sessions = summary.sessions;
+        let trays = summary.trays;
+        let calls = summary.open_calls;
+        let works = summary.set_aside;
+        println!(
+            rt,
+            "  the house: sessions {sessions}, free trays {trays}, open calls {calls}, set aside {works}"
+        )
+    }
+
     pub fn open(&mut self, rt: &LibcRuntime, target: u32, why: &str) -> io::Result<()> {
         match self.house.open(target) {
             Ok(place) => println!(rt, "  terminal {place}, open with target {target}: {why}"),

@@ -14,6 +14,7 @@ pub const PLACES: usize = 8;
 pub const TRAYS: usize = 64;
 
 /// Up to eight sessions, and the trays that their open slots own.
+#[derive(Drop)]
 pub struct Server {
     pub(crate) boot: u64,
     pub(crate) count: u64,
