@@ -54,7 +54,7 @@ fn print_tally(rt: &LibcRuntime, plan: Plan, tally: &Tally) -> io::Result<()> {
     let seed = plan.seed;
     let calls = tally.calls;
     let ordered = tally.ordered;
-    println!(rt, "{title}, seed {seed}: {calls} calls")?;
+    println!(rt, "{title}, dice set to {seed}: {calls} calls")?;
     let ran = tally.ran;
     let again = tally.again;
     println!(
