@@ -100,7 +100,3 @@ double-model C = record {
   gives = C .gives;
   rests = C .rests;
 }
-
--- the shop pile is Double over Loss over Pipe
-abbrev pub pile-model : ChannelModel
-pile-model = double-model (loss-model pipe-model)
