@@ -1,4 +1,6 @@
 //! A day at the bakehouse, told line by line: what each call came to, and why.
+#![tactic(auto)]
+
 mod bins;
 mod cards;
 mod counter;

@@ -1,4 +1,6 @@
 // Channels: what carries messages between terminals and server, and may lose, repeat or reorder them.
+#![tactic(auto)]
+
 ghost use Rattle.std.specs.Prelude.{◌≡◌, ◌≤◌, length, IfSome};
 ghost use Rattle.channel.specs.Channel.{ChannelModel, ChannelLaws, take_step, take_gives, taken, laid, none_waits};
 

@@ -1,4 +1,6 @@
 //! Random calls over channels that lose, double and reorder, and the check that every call known to be done was done once.
+#![tactic(auto)]
+
 mod dice;
 mod floor;
 mod jobs;

@@ -1,4 +1,6 @@
 //! The promise of sessions: each call is done exactly once, and both ends of a slot agree.
+#![tactic(auto)]
+
 ghost use Rattle.exactly_once.specs.Houses.{parts};
 ghost use Rattle.exactly_once.specs.Lived.{Keeps};
 

@@ -1,4 +1,6 @@
 //! A house: one server and its service, up to eight terminals, and a channel each way between them.
+#![tactic(auto)]
+
 pub mod hears;
 mod made;
 mod places;

@@ -1,4 +1,6 @@
 //! The ledger: 32 bins, each a count of grams, and the service that moves grams between them and tells counts.
+#![tactic(auto)]
+
 mod body;
 mod book;
 pub mod laws;

@@ -1,4 +1,6 @@
 //! The server: sessions, their slots with the reply cache, and what it does with a request.
+#![tactic(auto)]
+
 pub mod answers;
 mod bodies;
 mod calls;

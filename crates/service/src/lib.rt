@@ -1,4 +1,6 @@
 //! What a session runs its calls on: a service, known only by its written step.
+#![tactic(auto)]
+
 ghost use Rattle.std.specs.Prelude.{◌≡◌, ◌++◌, length, drop};
 ghost use Rattle.service.specs.Service.{ServiceModel, ServiceLaws};
 

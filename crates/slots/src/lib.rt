@@ -1,4 +1,6 @@
 //! The slot table: one thing for every kind of record, held over records that its caller lends.
+#![tactic(auto)]
+
 ghost use Rattle.std.specs.Prelude.{◌≡◌, Bool, if◌then◌else◌, Some, None, count_by, slice_set};
 ghost use Rattle.std.specs.List.{slice_get};
 ghost use Rattle.common.specs.Search.{lowest_at};

@@ -1,4 +1,6 @@
 //! One terminal of a session: which calls it has open at which slots, what it sends, and what it learns from replies.
+#![tactic(auto)]
+
 mod begins;
 mod ends;
 pub mod laws;

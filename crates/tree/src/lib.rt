@@ -1,4 +1,6 @@
 //! The name tree: 64 nodes, folders and cards, of which node 0 is the root folder; a service that makes, removes, moves and looks up.
+#![tactic(auto)]
+
 mod body;
 mod nodes;
 mod reached;

@@ -1,4 +1,6 @@
 // The messages between terminals and their server, and the refusals that every layer passes up.
+#![tactic(auto)]
+
 mod laws;
 mod messages;
 mod read;
