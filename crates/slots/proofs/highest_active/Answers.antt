@@ -4,17 +4,17 @@ use Rattle.std.proofs.lemmas.Bool.{cond-true, cond-false}
 use Rattle.slots.specs.Slots.{highest_at}
 use Rattle.slots.proofs.Slots.{highest_more}
 use Rattle.slots.proofs.highest_active.Goals as goal
-use Rattle.slots.proofs.highest_active.Goals.{then-is-active, else-is-active}
+use Rattle.slots.proofs.highest_active.Goals.{then-is_active, else-is_active}
 
 pub loop-i-preserved : goal.loop-i-preserved
 loop-i-preserved g c =
-    let new : c.if-is-active.best ≡ cond c.is-active.result c.loop-i.i c.loop-i.best =
-    elim c.if-is-active.branch [
-      | then-is-active w ↦ w.best-is ∙ sym (cond-true _ _ _ w.if-is-active.true)
-      | else-is-active w ↦ w.best-is ∙ sym (cond-false _ _ _ w.if-is-active.false)
+    let new : c.if-is_active.best ≡ cond c.is_active.result c.loop-i.i c.loop-i.best =
+    elim c.if-is_active.branch [
+      | then-is_active w ↦ w.best-is ∙ sym (cond-true _ _ _ w.if-is_active.true)
+      | else-is_active w ↦ w.best-is ∙ sym (cond-false _ _ _ w.if-is_active.false)
     ]
     in
-    highest_more g.R.Record.active _ _ _ _ _ _ c.loop-i-test.true c.index-records-i.is c.is-active.ensures new
+    highest_more g.R.Record.active _ _ _ _ _ _ c.loop-i-test.true c.index-records-i.is c.is_active.ensures new
     ∙ c.loop-i.invariant
 
 pub returns : goal.returns

@@ -4,18 +4,18 @@ use Rattle.std.proofs.lemmas.Bool.{cond-true, cond-false}
 use Rattle.slots.specs.Counts.{count_where}
 use Rattle.slots.proofs.Counting.{count_more}
 use Rattle.slots.proofs.counts.count_active.Goals as goal
-use Rattle.slots.proofs.counts.count_active.Goals.{then-is-active, else-is-active}
+use Rattle.slots.proofs.counts.count_active.Goals.{then-is_active, else-is_active}
 
 pub loop-i-preserved : goal.loop-i-preserved
 loop-i-preserved g c =
-    let new : c.if-is-active.count ≡ cond c.is-active.result (c.loop-i.count + 1) c.loop-i.count =
-    elim c.if-is-active.branch [
-      | then-is-active w ↦ w.count-is ∙ sym (cond-true _ _ _ w.if-is-active.true)
-      | else-is-active w ↦ w.count-is ∙ sym (cond-false _ _ _ w.if-is-active.false)
+    let new : c.if-is_active.count ≡ cond c.is_active.result (c.loop-i.count + 1) c.loop-i.count =
+    elim c.if-is_active.branch [
+      | then-is_active w ↦ w.count-is ∙ sym (cond-true _ _ _ w.if-is_active.true)
+      | else-is_active w ↦ w.count-is ∙ sym (cond-false _ _ _ w.if-is_active.false)
     ]
     in (
-      elim c.if-is-active.branch [ then-is-active w ↦ omega (arith, w.count-is) | else-is-active w ↦ omega (arith, w.count-is) ],
-      count_more g.R.Record.active _ _ _ _ _ _ c.loop-i-test.true c.index-records-i.is c.is-active.ensures new ∙ c.loop-i.invariant.1,
+      elim c.if-is_active.branch [ then-is_active w ↦ omega (arith, w.count-is) | else-is_active w ↦ omega (arith, w.count-is) ],
+      count_more g.R.Record.active _ _ _ _ _ _ c.loop-i-test.true c.index-records-i.is c.is_active.ensures new ∙ c.loop-i.invariant.1,
     )
 
 pub returns : goal.returns

@@ -8,12 +8,12 @@ pub returns : goal.returns
 returns c =
     let out = c.args.out.now in
     let message = request_message (request_model c.args.request) in
-    let size : c.copy-to.result ≡ length message = c.copy-to.ensures.value ∙ c.assembled.ensures.len in
-    let placed = sym c.copy-to.ensures.value in
-    let after = c.copy-to.ensures.out ∙ (λ i. c.assembled.ensures.written i ++ drop (placed i) out) in
+    let size : c.copy_to.result ≡ length message = c.copy_to.ensures.value ∙ c.assembled.ensures.len in
+    let placed = sym c.copy_to.ensures.value in
+    let after = c.copy_to.ensures.out ∙ (λ i. c.assembled.ensures.written i ++ drop (placed i) out) in
     record {
-      answer = tells (ltb (length out) 304) c.forbidden.result c.copy-to.result c.in-ok-permit.ensures ∙ (λ i. cond (ltb (length out) 304) (Err short_scratch) (permits (size i) (c.forbidden.ensures i)));
+      answer = tells (ltb (length out) 304) c.forbidden.result c.copy_to.result c.in_ok-permit.ensures ∙ (λ i. cond (ltb (length out) 304) (Err short_scratch) (permits (size i) (c.forbidden.ensures i)));
       out = after;
       message = front _ _ message _ after size;
-      fits = omega (arith, c.copy-to.ensures.value, c.assembled.ensures.fits);
+      fits = omega (arith, c.copy_to.ensures.value, c.assembled.ensures.fits);
     }

@@ -16,7 +16,7 @@ returns-then-choice-lt-STAYS c =
     let same = ap rack_messages c.next-choice.ensures.rack in
     let n = c.len-waiting.ensures.value in
     let is = c.next-choice.ensures.value in
-    let took = c.copy-to-len.ensures in
+    let took = c.copy_to-len.ensures in
     let low : leb 128 c.next-choice.result ≡ false = lt-leb 128 _ (omega arith) in
     let p = shelf_gave s _ _ _ _ c.next-choice.result _ (omega arith) n (omega arith) is same took.len took.after in
     record { after = shelf_after s _ _ c.next-choice.result _ (length c.args.buffer.now) (omega arith) n (omega arith) is (rw low (rw same at c.remove.ensures)) c.next-choice.ensures.rest; gave = p.0; front = p.1; bound = took.bound }
@@ -27,7 +27,7 @@ returns-else-choice-lt-STAYS c =
     let same = ap rack_messages c.next-choice.ensures.rack in
     let n = c.len-waiting.ensures.value in
     let is = c.next-choice.ensures.value in
-    let took = c.copy-to-len.ensures in
+    let took = c.copy_to-len.ensures in
     let high : leb 128 c.next-choice.result ≡ true = le-leb 128 _ (omega arith) in
     let p = shelf_gave s _ _ _ _ c.next-choice.result _ (omega arith) n (omega arith) is same took.len took.after in
     record { after = shelf_after s _ _ c.next-choice.result _ (length c.args.buffer.now) (omega arith) n (omega arith) is (rw high same) c.next-choice.ensures.rest; gave = p.0; front = p.1; bound = took.bound }

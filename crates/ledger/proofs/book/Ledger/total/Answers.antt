@@ -6,6 +6,6 @@ use Rattle.ledger.proofs.book.Ledger.total.Goals as goal
 pub returns : goal.returns
 returns c =
     record {
-      value = c.grams-in.ensures;
-      kept = λ first bodies w e. c.grams-in.ensures ∙ ap grams e ∙ (run_keeps first bodies w).total;
+      value = c.grams_in.ensures;
+      kept = λ first bodies w e. c.grams_in.ensures ∙ ap grams e ∙ (run_keeps first bodies w).total;
     }
