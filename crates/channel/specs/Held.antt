@@ -28,7 +28,7 @@ abbrev pub shelf_state : Shelf → ShelfState
 shelf_state s = record { messages = rack_messages s.rack; choices = drop s.used s.choices.now }
 
 -- a loss by its counts and the state of the channel below
-abbrev pub loss_state : {C : Type 0} (c : channel.Ghosts C) → Loss C → LossState c.model.State
+abbrev pub loss_state : {C : Type 0} (c : channel.Ghosts C) → Loss C c → LossState c.model.State
 loss_state c l = record { every = l.every; since = l.since; inner = c.state l.inner }
 
 -- a double by the state of the channel below
@@ -39,12 +39,12 @@ double_state c d = c.state d.inner
 abbrev pub pipe_channel : channel.Ghosts Pipe
 pipe_channel = record { model = pipe_model; state = pipe_state; lawful = pipe_laws }
 
-abbrev pub loss_channel : {C : Type 0} → channel.Ghosts C → channel.Ghosts (Loss C)
+abbrev pub loss_channel : {C : Type 0} → (c : channel.Ghosts C) → channel.Ghosts (Loss C c)
 loss_channel c = record { model = loss_model c.model; state = loss_state c; lawful = loss_laws c.model c.lawful }
 
 abbrev pub double_channel : {C : Type 0} → channel.Ghosts C → channel.Ghosts (Double C)
 double_channel c = record { model = double_model c.model; state = double_state c; lawful = double_laws c.model c.lawful }
 
 -- the shop pile
-abbrev pub pile_channel : channel.Ghosts (Double (Loss Pipe))
+abbrev pub pile_channel : channel.Ghosts (Double (Loss Pipe pipe_channel))
 pile_channel = double_channel (loss_channel pipe_channel)

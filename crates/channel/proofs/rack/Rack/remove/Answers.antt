@@ -6,7 +6,10 @@ use Rattle.channel.proofs.rack.Rack.remove.Goals as goal
 pub invariant_of-self : goal.invariant_of-self
 invariant_of-self c =
     let r = c.args.self.now in
-    (omega arith, (length_turned r.packets c.rotate_left.new.self c.args.i r.whole (omega arith) (c.rotate_left.ensures.len ∙ simp (length-take, length-drop) (omega arith)), tt))
+    record {
+      few = omega arith;
+      whole = length_turned r.packets c.rotate_left.new.self c.args.i r.whole (omega arith) (c.rotate_left.ensures.len ∙ simp (length-take, length-drop) (omega arith));
+    }
 
 pub returns : goal.returns
 returns c =
