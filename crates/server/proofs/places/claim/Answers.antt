@@ -40,8 +40,8 @@ returns-then-kept c =
       state = λ ts. unplaced ts ss p i s x (with_open true) hs c.slot-kept.ensures (standing_of ss p s hs c.requires.stands) (open_already x (get_or ts x.tray no_tray) c.if-kept.true);
     }
 
-pub offset-bounds-owners-tray : goal.offset-bounds-owners-tray
-offset-bounds-owners-tray c = let h = within c in omega arith
+pub offset_bounds-owners-tray : goal.offset_bounds-owners-tray
+offset_bounds-owners-tray c = let h = within c in omega arith
 
 pub bounds-owners-tray : goal.bounds-owners-tray
 bounds-owners-tray c = within c

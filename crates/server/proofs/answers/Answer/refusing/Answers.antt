@@ -1,5 +1,5 @@
 use Rattle.std.proofs.Common.{zero-le, arith}
 use Rattle.server.proofs.answers.Answer.refusing.Goals as goal
 
-pub invariant-of-result : goal.invariant-of-result
-invariant-of-result c = ((zero-le, zero-le, omega (arith, c.empty.ensures.none)), tt)
+pub invariant_of-result : goal.invariant_of-result
+invariant_of-result c = record { fit = (zero-le, zero-le, omega (arith, c.empty.ensures.none)) }

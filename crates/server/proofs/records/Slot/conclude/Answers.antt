@@ -5,14 +5,14 @@ use Rattle.server.specs.Models.{slot_model, held}
 use Rattle.server.proofs.Slots.{slot_with}
 use Rattle.server.proofs.records.Slot.conclude.Goals as goal
 
-pub put-reply-requires : goal.put-reply-requires
-put-reply-requires c = omega (arith, c.as-slice.ensures.size, c.args.outcome.now.body.fits)
+pub put_reply-requires : goal.put_reply-requires
+put_reply-requires c = omega (arith, c.as_slice.ensures.size, c.args.outcome.now.body.fits)
 
 pub returns-then-self : goal.returns-then-self
 returns-then-self c =
     let x = slot_model c.args.tray.now c.args.self.now in
     let o = c.args.outcome.now in
-    let a = c.as-slice.ensures in
+    let a = c.as_slice.ensures in
     let p = c.put_reply.ensures in
     let b = ap (take c.args.self.now.asked) p.request in
     let r = ap (λ n. take n c.put_reply.new.self.reply) (sym a.size) ∙ p.reply ∙ a.value in

@@ -21,8 +21,8 @@ accept-requires c =
     let hs = slice_get-get_or v.sessions p c.index-self-place.result h in
     ((new_live v.boot v.count v.trays v.sessions p _ c.slot-kept.result (request_model c.args.request) hs c.slot-kept.ensures c.requires.fresh).1, c.requires.short)
 
-pub invariant-of-self-2 : goal.invariant-of-self-2
-invariant-of-self-2 c =
+pub invariant_of-self-2 : goal.invariant_of-self-2
+invariant_of-self-2 c =
     let v = c.args.self.now in
     let ss = v.sessions in
     let p = c.args.place in
@@ -34,13 +34,12 @@ invariant-of-self-2 c =
     let hx : slice_get s.slots i ≡ Some x = ap (λ (r : Session). slice_get r.slots i) (get_or_default ss p _ _ h) ∙ c.slot-kept.ensures in
     let n = new_live v.boot v.count v.trays ss p s x (request_model c.args.request) hs hx c.requires.fresh in
     let a = c.put.ensures in
-    let e = c.accept.ensures in (
-      (length-set _ _ _ ∙ v.whole.0, v.whole.1, length-set _ _ _ ∙ v.whole.2),
-      (
-        marked_kept ss p i s _ x _ hs hx n.0 a.slots a.standing v.owners v.marked e.live e.tray,
-        (counted_kept ss p i s _ x _ hs hx n.0 a.slots a.standing v.owners v.counted e.live, tt),
-      ),
-    )
+    let e = c.accept.ensures in
+    record {
+      whole = (length-set _ _ _ ∙ v.whole.0, v.whole.1, length-set _ _ _ ∙ v.whole.2);
+      marked = marked_kept ss p i s _ x _ hs hx n.0 a.slots a.standing v.owners v.marked e.live e.tray;
+      counted = counted_kept ss p i s _ x _ hs hx n.0 a.slots a.standing v.owners v.counted e.live;
+    }
 
 pub returns : goal.returns
 returns c =

@@ -6,20 +6,19 @@ use Rattle.server.proofs.Changes.{with_places}
 use Rattle.server.proofs.Opened.{marked_same, counted_same, place_set, aimed}
 use Rattle.server.proofs.state.Server.aim.Goals as goal
 
-pub invariant-of-self : goal.invariant-of-self
-invariant-of-self c =
+pub invariant_of-self : goal.invariant_of-self
+invariant_of-self c =
     let v = c.args.self.now in
     let ss = v.sessions in
     let p = c.args.place in
     let h : p < length ss = omega (arith, v.whole) in
     let s = get_or ss p c.index-self-place.result in
-    let hs = slice_get-get_or ss p c.index-self-place.result h in (
-      (length-set _ _ _ ∙ v.whole.0, v.whole.1, v.whole.2),
-      (
-        marked_same ss v.owners p s _ hs v.marked (λ i. refl),
-        (counted_same ss v.owners p s _ hs v.counted refl, tt),
-      ),
-    )
+    let hs = slice_get-get_or ss p c.index-self-place.result h in
+    record {
+      whole = (length-set _ _ _ ∙ v.whole.0, v.whole.1, v.whole.2);
+      marked = marked_same ss v.owners p s _ hs v.marked (λ i. refl);
+      counted = counted_same ss v.owners p s _ hs v.counted refl;
+    }
 
 pub returns : goal.returns
 returns c =

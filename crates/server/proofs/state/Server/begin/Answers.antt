@@ -7,8 +7,8 @@ use Rattle.server.specs.Models.{session_model}
 use Rattle.server.proofs.Opened.{marked_new, counted_new, vacant_is}
 use Rattle.server.proofs.state.Server.begin.Goals as goal
 
-pub invariant-of-self : goal.invariant-of-self
-invariant-of-self c =
+pub invariant_of-self : goal.invariant_of-self
+invariant_of-self c =
     let v = c.args.self.now in
     let ss = v.sessions in
     let p = c.args.place in
@@ -17,13 +17,12 @@ invariant-of-self c =
     let s = get_or ss p new in
     let hs = slice_get-get_or ss p new h in
     let a = c.shut.ensures in
-    let gone = cond-false _ _ _ (vacant_is v.trays ss p s hs c.requires.vacant) in (
-      (length-set _ _ _ ∙ v.whole.0, v.whole.1, v.whole.2),
-      (
-        marked_new ss v.owners p s new hs v.marked a.none.0,
-        (counted_new ss v.owners p s new hs v.counted gone a.none.1, tt),
-      ),
-    )
+    let gone = cond-false _ _ _ (vacant_is v.trays ss p s hs c.requires.vacant) in
+    record {
+      whole = (length-set _ _ _ ∙ v.whole.0, v.whole.1, v.whole.2);
+      marked = marked_new ss v.owners p s new hs v.marked a.none.0;
+      counted = counted_new ss v.owners p s new hs v.counted gone a.none.1;
+    }
 
 pub returns : goal.returns
 returns c =

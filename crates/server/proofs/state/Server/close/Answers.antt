@@ -24,7 +24,7 @@ vacate-requires c =
     let h : p < length m.sessions = omega (arith, v.whole, length-map v.sessions (session_model v.trays), c.in-Some.ensures.low) in
     record {
       within = c.in-Some.ensures.low;
-      shut = ap open_slots (ap (λ q. session_at q p) c.free-slots.ensures ∙ at_change m.sessions p (at_front emptied 16) h) ∙ emptied_open (session_at m p) (λ s e. sixteen v.trays v.sessions p s e);
+      shut = ap open_slots (ap (λ q. session_at q p) c.free_slots.ensures ∙ at_change m.sessions p (at_front emptied 16) h) ∙ emptied_open (session_at m p) (λ s e. sixteen v.trays v.sessions p s e);
     }
 
 pub returns-in-Some : goal.returns-in-Some
@@ -34,6 +34,6 @@ returns-in-Some c =
     let id = id_model c.args.id in
     let a = c.in-Some.ensures in
     let s = some_of (session_at m p) a.stands in
-    let n = c.vacate.ensures ∙ ap (λ q. vacated q p) c.free-slots.ensures ∙ vacated_changed m p (at_front emptied 16) ∙ sym (with_found m id p None (sym a.value)) in
+    let n = c.vacate.ensures ∙ ap (λ q. vacated q p) c.free_slots.ensures ∙ vacated_changed m p (at_front emptied 16) ∙ sym (with_found m id p None (sym a.value)) in
     let e = ap Ok n ∙ sym (close_there m id p s.0 (sym a.value) s.1) in
     record { answer = e; state = ap (after_call m) e }

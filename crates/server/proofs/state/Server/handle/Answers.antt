@@ -24,5 +24,5 @@ returns-in-Some c =
     let a = c.in-Some.ensures in
     let s = some_of (session_at m c.in-Some.place) a.stands in
     let none : Serving = record { answer = says (refusing q 10052); after = m } in
-    c.serve-at.ensures s.0 s.1 (sym a.value)
+    c.serve_at.ensures s.0 s.1 (sym a.value)
     ∙ ap (when_found none (λ r. serve_by (verdict r q) m r q)) (sym (session_found m q.id c.in-Some.place (sym a.value) ∙ s.1))

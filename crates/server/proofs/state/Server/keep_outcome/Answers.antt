@@ -14,8 +14,8 @@ use Rattle.server.proofs.state.Server.keep_outcome.Goals as goal
 pub conclude-requires : goal.conclude-requires
 conclude-requires c = asks_asked c.args.self.now c.args.place c.args.slot c.index-self-place.result c.slot-kept.result c.requires.within c.slot-kept.ensures c.requires.asks
 
-pub invariant-of-self-2 : goal.invariant-of-self-2
-invariant-of-self-2 c =
+pub invariant_of-self-2 : goal.invariant_of-self-2
+invariant_of-self-2 c =
     let v = c.args.self.now in
     let ss = v.sessions in
     let p = c.args.place in
@@ -27,13 +27,12 @@ invariant-of-self-2 c =
     let hs = slice_get-get_or ss p c.index-self-place-2.result h in
     let a = c.put.ensures in
     let e = c.conclude.ensures in
-    let st = stands_here v.trays ss p s hs (holds_here (λ m. not (is_bare (slot_at m i))) (session_at (model v) p) c.requires.asks).0 in (
-      (length-set _ _ _ ∙ v.whole.0, v.whole.1, length-set _ _ _ ∙ v.whole.2),
-      (
-        marked_kept ss p i s _ x _ hs hx st a.slots a.standing v.owners v.marked e.live e.tray,
-        (counted_kept ss p i s _ x _ hs hx st a.slots a.standing v.owners v.counted e.live, tt),
-      ),
-    )
+    let st = stands_here v.trays ss p s hs (holds_here (λ m. not (is_bare (slot_at m i))) (session_at (model v) p) c.requires.asks).0 in
+    record {
+      whole = (length-set _ _ _ ∙ v.whole.0, v.whole.1, length-set _ _ _ ∙ v.whole.2);
+      marked = marked_kept ss p i s _ x _ hs hx st a.slots a.standing v.owners v.marked e.live e.tray;
+      counted = counted_kept ss p i s _ x _ hs hx st a.slots a.standing v.owners v.counted e.live;
+    }
 
 pub returns : goal.returns
 returns c =

@@ -18,8 +18,8 @@ returns-in-None c =
     let e = sym (open_full m c.args.target c.if-target-gt15.false (sym (c.in-None.ensures ∙ vacant_lowest v.trays v.sessions))) in
     record { answer = e; state = ap (after_opening m) e }
 
-pub open-at-requires : goal.open-at-requires
-open-at-requires c =
+pub open_at-requires : goal.open_at-requires
+open_at-requires c =
     let v = c.args.self.now in
     let f = vacant_found (model v) c.in-Some.place (sym (c.in-Some.ensures ∙ vacant_lowest v.trays v.sessions)) in
     record {
@@ -33,4 +33,4 @@ returns-in-Some c =
     let v = c.args.self.now in
     let m = model v in
     let e = open_there m c.args.target c.in-Some.place c.if-target-gt15.false (sym (c.in-Some.ensures ∙ vacant_lowest v.trays v.sessions)) in
-    record { answer = c.open-at.ensures.answer ∙ sym e; state = c.open-at.ensures.state ∙ ap (after_opening m) (sym e) }
+    record { answer = c.open_at.ensures.answer ∙ sym e; state = c.open_at.ensures.state ∙ ap (after_opening m) (sym e) }

@@ -8,8 +8,8 @@ use Rattle.server.specs.Calls.{after_opening}
 use Rattle.server.proofs.Opened.{begun_free, begun_there, begun_shut, begun_opened, open_accepted}
 use Rattle.server.proofs.state.Server.open_at.Goals as goal
 
-pub open-slots-requires : goal.open-slots-requires
-open-slots-requires c =
+pub open_slots-requires : goal.open_slots-requires
+open_slots-requires c =
     let v = c.args.self.now in
     let m = model v in
     let p = c.args.place in
@@ -24,7 +24,7 @@ open-slots-requires c =
       within = c.requires.within;
       few = few;
       stands = ap (λ q. is_some (session_at q p)) e ∙ ap is_some (begun_there m p (new_id m) c.args.target h);
-      room = omega (arith, free, shut, some, c.free_trays.ensures.value, c.if-free-trays-slots.false);
+      room = omega (arith, free, shut, some, c.free_trays.ensures.value, c.if-free_trays-slots.false);
     }
 
 pub returns : goal.returns
@@ -35,5 +35,5 @@ returns c =
     let n = c.args.target + 1 in
     let h : p < length m.sessions = omega (arith, v.whole, length-map v.sessions (session_model v.trays), c.requires.within) in
     let e = c.open_slots.ensures ∙ ap (λ q. change_at q p (at_front (with_open true) n)) c.begin.ensures ∙ begun_opened m p c.args.target h in
-    let a = ap Ok (λ u. record { id = new_id m; after = e u }) ∙ sym (open_accepted m c.args.target p c.if-self.false (omega (arith, c.free_trays.ensures.value, c.if-free-trays-slots.false))) in
+    let a = ap Ok (λ u. record { id = new_id m; after = e u }) ∙ sym (open_accepted m c.args.target p c.if-self.false (omega (arith, c.free_trays.ensures.value, c.if-free_trays-slots.false))) in
     record { answer = a; state = ap (after_opening m) a }

@@ -9,8 +9,8 @@ use Rattle.server.proofs.state.Server.open_slots.Goals as goal
 pub loop-i-init : goal.loop-i-init
 loop-i-init c = (loop_none (model c.args.self.now) c.args.place (with_open true), c.requires.room)
 
-pub open-slot-requires : goal.open-slot-requires
-open-slot-requires c =
+pub open_slot-requires : goal.open_slot-requires
+open_slot-requires c =
     let v = c.args.self.now in
     let p = c.args.place in
     let i = c.loop-i.i in
@@ -32,8 +32,8 @@ loop-i-preserved c =
     let h : p < length (model v).sessions = omega (arith, v.whole, length-map v.sessions (session_model v.trays), c.requires.within) in
     let l = shut_left_more (model v) p i c.args.count c.loop-i-test.true (λ s e. omega (arith, sixteen v.trays v.sessions p s e, c.requires.few)) in
     let k = loop_shut (model v) (model c.loop-i.self) p i (with_open true) h c.loop-i.invariant.0 in (
-      loop_more (model v) (model c.loop-i.self) p i (with_open true) h c.loop-i.invariant.0 _ (λ s e. omega (arith, sixteen v.trays v.sessions p s e, c.loop-i-test.true, c.requires.few)) c.open-slot.ensures.state,
-      omega (arith, l, k, c.loop-i.invariant.1, c.open-slot.ensures.free),
+      loop_more (model v) (model c.loop-i.self) p i (with_open true) h c.loop-i.invariant.0 _ (λ s e. omega (arith, sixteen v.trays v.sessions p s e, c.loop-i-test.true, c.requires.few)) c.open_slot.ensures.state,
+      omega (arith, l, k, c.loop-i.invariant.1, c.open_slot.ensures.free),
     )
 
 pub returns : goal.returns

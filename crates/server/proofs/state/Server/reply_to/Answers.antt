@@ -15,6 +15,6 @@ returns g c =
     let b = ap (λ (t : Tray). take x.asked t.request) (get_or_default v.trays x.tray _ no_tray h) in
     let at = slot_of v c.args.place c.args.slot c.index-self-place.result x c.requires.within c.slot-kept.ensures in
     record {
-      reply = λ m e. c.asked-of.ensures.reply ∙ ap (g.S.Service.model.reply k) (b ∙ ap (λ (y : SlotM). y.body) (sym (at m e)));
-      content = λ m e. c.asked-of.ensures.content ∙ ap (g.S.Service.model.next k) (b ∙ ap (λ (y : SlotM). y.body) (sym (at m e)));
+      reply = λ m e. c.asked_of.ensures.reply ∙ ap (g.S.Service.model.reply k) (b ∙ ap (λ (y : SlotM). y.body) (sym (at m e)));
+      content = λ m e. c.asked_of.ensures.content ∙ ap (g.S.Service.model.next k) (b ∙ ap (λ (y : SlotM). y.body) (sym (at m e)));
     }

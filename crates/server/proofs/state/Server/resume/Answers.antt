@@ -27,8 +27,8 @@ returns-then-not-works g c =
     let n = resume_by S k m p (standing_model v.trays (get_or v.sessions p c.index-self-place.result)) h (id_model c.args.id) c.args.slot false (sym a.value) (sym (c.works.ensures.value v.trays) ∙ c.if-not-works.true) in
     record { answer = sym n; state = ap (server_after S m) (sym n); content = ap (content_after S k) (sym n) }
 
-pub answer-at-requires : goal.answer-at-requires
-answer-at-requires g c =
+pub answer_at-requires : goal.answer_at-requires
+answer_at-requires g c =
     let v = c.args.self.now in
     let p = c.in-Some.place in
     let i = c.args.slot in
@@ -52,5 +52,5 @@ returns-else-not-works g c =
     let s = standing_model v.trays (get_or v.sessions p c.index-self-place.result) in
     let h = session_there v p c.index-self-place.result a.low a.stands in
     let n = resume_by S k m p s h (id_model c.args.id) c.args.slot true (sym a.value) (sym (c.works.ensures.value v.trays) ∙ c.if-not-works.false) in
-    let r = c.answer-at.ensures s h (sym a.value) ∙ sym n in
+    let r = c.answer_at.ensures s h (sym a.value) ∙ sym n in
     record { answer = r; state = ap (server_after S m) r; content = ap (content_after S k) r }

@@ -19,7 +19,7 @@ returns-in-Some c =
     let a = c.in-Some.ensures in
     let s = some_of (session_at m c.in-Some.place) a.stands in
     let e = retarget_there m (id_model c.args.id) c.args.target c.in-Some.place s.0 (sym a.value) s.1 in
-    let r = c.retarget-at.ensures in
+    let r = c.retarget_at.ensures in
     record {
       answer = r.answer s.0 s.1 (id_model c.args.id) (sym a.value) ∙ sym e;
       state = r.state s.0 s.1 (id_model c.args.id) (sym a.value) ∙ ap (after_call m) (sym e);

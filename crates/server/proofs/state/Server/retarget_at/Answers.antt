@@ -23,21 +23,21 @@ told v p n d m low e =
     let hs = slice_get-get_or v.sessions p d (omega (arith, v.whole)) in
     shut_told v.trays s.slots n ∙ ap (λ (r : SessionM). count_by (λ (x : SlotM). not x.is_open) (take n r.slots)) (sym (session_is v.trays v.sessions p s m hs e).1)
 
-pub returns-then-free-trays-shut-below : goal.returns-then-free-trays-shut-below
-returns-then-free-trays-shut-below c =
+pub returns-then-free_trays-shut_below : goal.returns-then-free_trays-shut_below
+returns-then-free_trays-shut_below c =
     let v = c.args.self.now in
     let m = model v in
     let t = c.args.target in
     let few : (s : SessionM) → session_at m c.args.place ≡ Some s → free_trays m < shut_up_to s t =
-    λ s e. omega (arith, c.shut_below.ensures, told v c.args.place (t + 1) c.index-self-place.result s c.requires.within e, c.free_trays.ensures.value, c.if-free-trays-shut-below.true)
+    λ s e. omega (arith, c.shut_below.ensures, told v c.args.place (t + 1) c.index-self-place.result s c.requires.within e, c.free_trays.ensures.value, c.if-free_trays-shut_below.true)
     in
     record {
       answer = λ s e id f. sym (retarget_few m id t s c.if-target-gt15.false (few s e));
       state = λ s e id f. ap (after_call m) (sym (retarget_few m id t s c.if-target-gt15.false (few s e)));
     }
 
-pub open-slots-requires : goal.open-slots-requires
-open-slots-requires c =
+pub open_slots-requires : goal.open_slots-requires
+open_slots-requires c =
     let v = c.args.self.now in
     let m = model v in
     let p = c.args.place in
@@ -48,7 +48,7 @@ open-slots-requires c =
       within = c.requires.within;
       few = omega (arith, c.if-target-gt15.false);
       stands = c.requires.stands;
-      room = omega (arith, shut, c.shut_below.ensures, told v p n c.index-self-place.result s.0 c.requires.within s.1, c.free_trays.ensures.value, c.if-free-trays-shut-below.false);
+      room = omega (arith, shut, c.shut_below.ensures, told v p n c.index-self-place.result s.0 c.requires.within s.1, c.free_trays.ensures.value, c.if-free_trays-shut_below.false);
     }
 
 pub returns : goal.returns
@@ -59,7 +59,7 @@ returns c =
     let t = c.args.target in
     let h : p < length m.sessions = omega (arith, v.whole, length-map v.sessions (session_model v.trays), c.requires.within) in
     let room : (s : SessionM) → session_at m p ≡ Some s → shut_up_to s t ≤ free_trays m =
-    λ s e. omega (arith, c.shut_below.ensures, told v p (t + 1) c.index-self-place.result s c.requires.within e, c.free_trays.ensures.value, c.if-free-trays-shut-below.false)
+    λ s e. omega (arith, c.shut_below.ensures, told v p (t + 1) c.index-self-place.result s c.requires.within e, c.free_trays.ensures.value, c.if-free_trays-shut_below.false)
     in
     let n =
     c.aim.ensures

@@ -16,8 +16,8 @@ returns-in-None g c =
     let n = run_none S k m (record { id = id_model c.args.id; slot = c.args.slot; number = c.args.number }) (sym c.in-None.ensures.value) in
     record { answer = sym n; state = ap (server_after S m) (sym n); content = ap (content_after S k) (sym n) }
 
-pub returns-then-not-in-hand : goal.returns-then-not-in-hand
-returns-then-not-in-hand g c =
+pub returns-then-not-in_hand : goal.returns-then-not-in_hand
+returns-then-not-in_hand g c =
     let S = g.S.Service.model in
     let v = c.args.self.now in
     let m = model v in
@@ -25,11 +25,11 @@ returns-then-not-in-hand g c =
     let k = g.S.Service.content c.args.service.now in
     let a = c.in-Some.ensures in
     let h = session_there v p c.index-self-place.result a.low a.stands in
-    let n = run_by S k m p (standing_model v.trays (get_or v.sessions p c.index-self-place.result)) h (record { id = id_model c.args.id; slot = c.args.slot; number = c.args.number }) false (sym a.value) (sym (c.in_hand.ensures v.trays) ∙ c.if-not-in-hand.true) in
+    let n = run_by S k m p (standing_model v.trays (get_or v.sessions p c.index-self-place.result)) h (record { id = id_model c.args.id; slot = c.args.slot; number = c.args.number }) false (sym a.value) (sym (c.in_hand.ensures v.trays) ∙ c.if-not-in_hand.true) in
     record { answer = sym n; state = ap (server_after S m) (sym n); content = ap (content_after S k) (sym n) }
 
-pub answer-at-requires : goal.answer-at-requires
-answer-at-requires g c =
+pub answer_at-requires : goal.answer_at-requires
+answer_at-requires g c =
     let v = c.args.self.now in
     let p = c.in-Some.place in
     let i = c.args.slot in
@@ -38,14 +38,14 @@ answer-at-requires g c =
     let h = session_there v p c.index-self-place.result a.low a.stands in
     let x = works_at s i in
     let y = eqb (slot_at s i).number c.args.number in
-    let b = and_parts x y (sym (c.in_hand.ensures v.trays) ∙ c.if-not-in-hand.false) in
+    let b = and_parts x y (sym (c.in_hand.ensures v.trays) ∙ c.if-not-in_hand.false) in
     record {
       within = a.low;
       works = ap (when_found false (λ r. works_at r i)) h ∙ b.0;
     }
 
-pub returns-else-not-in-hand : goal.returns-else-not-in-hand
-returns-else-not-in-hand g c =
+pub returns-else-not-in_hand : goal.returns-else-not-in_hand
+returns-else-not-in_hand g c =
     let S = g.S.Service.model in
     let v = c.args.self.now in
     let m = model v in
@@ -54,6 +54,6 @@ returns-else-not-in-hand g c =
     let a = c.in-Some.ensures in
     let s = standing_model v.trays (get_or v.sessions p c.index-self-place.result) in
     let h = session_there v p c.index-self-place.result a.low a.stands in
-    let n = run_by S k m p s h (record { id = id_model c.args.id; slot = c.args.slot; number = c.args.number }) true (sym a.value) (sym (c.in_hand.ensures v.trays) ∙ c.if-not-in-hand.false) in
-    let r = c.answer-at.ensures s h (sym a.value) ∙ sym n in
+    let n = run_by S k m p s h (record { id = id_model c.args.id; slot = c.args.slot; number = c.args.number }) true (sym a.value) (sym (c.in_hand.ensures v.trays) ∙ c.if-not-in_hand.false) in
+    let r = c.answer_at.ensures s h (sym a.value) ∙ sym n in
     record { answer = r; state = ap (server_after S m) r; content = ap (content_after S k) r }

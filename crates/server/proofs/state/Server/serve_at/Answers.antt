@@ -20,5 +20,5 @@ returns-in-New c = λ s e f.
     let q = request_model c.args.request in
     let w : Work = record { id = q.id; slot = q.slot; number = q.number } in
     let told : ServerM → Serving = λ n. record { answer = work w; after = n } in
-    ap told (c.accept-at.ensures ∙ changed_found m q.id c.args.place s (at_slot (λ x. accepted x q) q.slot) f e)
+    ap told (c.accept_at.ensures ∙ changed_found m q.id c.args.place s (at_slot (λ x. accepted x q) q.slot) f e)
     ∙ ap (λ v. serve_by v m s q) (c.in-New.ensures s e)

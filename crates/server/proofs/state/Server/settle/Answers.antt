@@ -12,7 +12,7 @@ returns-then-shuts c =
     let i = c.args.slot in
     let w = works_here (model v) p i c.requires.works in
     let t = tested v p i c.index-self-place.result c.slot-kept.result c.requires.within c.slot-kept.ensures c.index-self-place-2.result in
-    c.free-slot.ensures
+    c.free_slot.ensures
     ∙ ap (with_places (model v)) (change_same (model v).sessions p (at_slot emptied i) (settled i) (λ m e. settled_shut m i (w.2 m e) (sym (t m _ c.shuts.ensures e) ∙ c.if-shuts.true)))
 
 pub returns-else-shuts : goal.returns-else-shuts

@@ -5,16 +5,16 @@ use Rattle.terminal.specs.Sends.{slot_of}
 use Rattle.terminal.proofs.Steps.{part_refused, part_some, part_begins, begun_resends}
 use Rattle.terminal.proofs.state.Terminal.begin_part.Goals as goal
 
-pub returns-then-not-can-part : goal.returns-then-not-can-part
-returns-then-not-can-part c =
+pub returns-then-not-can_part : goal.returns-then-not-can_part
+returns-then-not-can_part c =
     let t : TerminalM = terminal_model c.args.self.now in
-    let e = part_refused t c.args.slot (sym c.if-not-can-part.ensures) in
+    let e = part_refused t c.args.slot (sym c.if-not-can_part.ensures) in
     record { answer = ap slot_of (sym e); terminal = ap (after_sending t) (sym e); resends = tt }
 
 pub returns : goal.returns
 returns c =
     let t : TerminalM = terminal_model c.args.self.now in
-    let e = part_some t c.args.slot (sym c.if-not-can-part.ensures) in
+    let e = part_some t c.args.slot (sym c.if-not-can_part.ensures) in
     let empty = c.empty.ensures in
     let answer = ap slot_of (sym e) in
     let terminal = c.begin.ensures.value ∙ ((λ j. (begin t c.args.slot (record { highest = c.args.slot - 1; keep = false; body = empty j; part = true; fresh = true })).after) ∙ ap (after_sending t) (sym e)) in

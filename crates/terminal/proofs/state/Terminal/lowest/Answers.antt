@@ -8,6 +8,6 @@ pub returns : goal.returns
 returns c =
     let sixteen : length c.args.self.now.ends ≡ 16 = search rules in
     record {
-      value = c.lowest-ready.ensures ∙ lowest_shown c.args.self.now.ends;
+      value = c.lowest_ready.ensures ∙ lowest_shown c.args.self.now.ends;
       sixteen = length-map c.args.self.now.ends end_model ∙ sixteen;
     }

@@ -9,5 +9,5 @@ pub returns : goal.returns
 returns c =
     let ends = c.args.self.now.ends in
     let sixteen : length ends ≡ 16 = search rules in
-    let value = c.count-active.ensures ∙ count_shown ends in
-    record { value = value; low = omega (arith, c.count-active.ensures, count_low (λ (e : End). is_busy (end_model e)) ends, sixteen) }
+    let value = c.count_active.ensures ∙ count_shown ends in
+    record { value = value; low = omega (arith, c.count_active.ensures, count_low (λ (e : End). is_busy (end_model e)) ends, sixteen) }

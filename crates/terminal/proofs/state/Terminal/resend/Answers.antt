@@ -13,27 +13,27 @@ returns-then-slot-ge-SLOTS c =
     let e = in_room c.args.scratch.now _ _ c.if-scratch-lt-ROOM.false (resend_high (terminal_model c.args.self.now) c.args.slot c.if-slot-ge-SLOTS.true) in
     record { answer = ap told (sym e); scratch = ap (scratch_after c.args.scratch.now) (sym e); message = ap message_of (sym e); fits = tt }
 
-pub returns-in-default : goal.returns-in-default
-returns-in-default c =
-    let idle = ap (λ (x : EndM). x.call) (sym c.end-at-end.ensures.value) ∙ ap (option_map call_model) c.in-default.is in
+pub returns-in_default : goal.returns-in_default
+returns-in_default c =
+    let idle = ap (λ (x : EndM). x.call) (sym c.end_at-end.ensures.value) ∙ ap (option_map call_model) c.in_default.is in
     let e = in_room c.args.scratch.now _ _ c.if-scratch-lt-ROOM.false (resend_none (terminal_model c.args.self.now) c.args.slot (let l = c.if-slot-ge-SLOTS.false in omega arith) idle) in
     record { answer = ap told (sym e); scratch = ap (scratch_after c.args.scratch.now) (sym e); message = ap message_of (sym e); fits = tt }
 
 pub returns : goal.returns
 returns c =
     let t : TerminalM = terminal_model c.args.self.now in
-    let x : EndM = end_model c.end-at-end.result in
+    let x : EndM = end_model c.end_at-end.result in
     let call : OpenCall = call_model c.in-Some.call in
     let asked : Bytes → Request = λ body. record { id = t.id; number = x.number; slot = c.args.slot; highest = call.highest; keep = call.keep; body = body } in
-    let q : Request = asked c.as-slice.result.now in
+    let q : Request = asked c.as_slice.result.now in
     let low : c.args.slot ≤ 15 = (let l = c.if-slot-ge-SLOTS.false in omega arith) in
     let is : x.call ≡ Some call = ap (option_map call_model) c.in-Some.is in
-    let asks : q ≡ call_request t c.args.slot x.number call = ap asked c.as-slice.ensures.value in
-    let wrote = c.in-ok-len.ensures in
-    let e = resend_asks t c.args.slot x call q c.args.scratch.now low c.end-at-end.ensures.value is asks c.if-scratch-lt-ROOM.false in
+    let asks : q ≡ call_request t c.args.slot x.number call = ap asked c.as_slice.ensures.value in
+    let wrote = c.in_ok-len.ensures in
+    let e = resend_asks t c.args.slot x call q c.args.scratch.now low c.end_at-end.ensures.value is asks c.if-scratch-lt-ROOM.false in
     record {
-      answer = resend_answer t c.args.slot x call q c.args.scratch.now low c.end-at-end.ensures.value is asks c.if-scratch-lt-ROOM.false c.in-ok-len.len c.write-request.new.out wrote.answer wrote.out;
-      scratch = resend_scratch t c.args.slot x call q c.args.scratch.now low c.end-at-end.ensures.value is asks c.if-scratch-lt-ROOM.false c.in-ok-len.len c.write-request.new.out wrote.answer wrote.out;
+      answer = resend_answer t c.args.slot x call q c.args.scratch.now low c.end_at-end.ensures.value is asks c.if-scratch-lt-ROOM.false c.in_ok-len.len c.write_request.new.out wrote.answer wrote.out;
+      scratch = resend_scratch t c.args.slot x call q c.args.scratch.now low c.end_at-end.ensures.value is asks c.if-scratch-lt-ROOM.false c.in_ok-len.len c.write_request.new.out wrote.answer wrote.out;
       message = ap Ok wrote.message ∙ ap message_of (sym e);
       fits = wrote.fits;
     }

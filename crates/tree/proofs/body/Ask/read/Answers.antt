@@ -10,12 +10,12 @@ returns-in-109 c =
 pub returns-in-118 : goal.returns-in-118
 returns-in-118 c =
     let letter : get_or c.args.body.now 0 0 ≡ 118 = search rules in
-    c.move-to.ensures ∙ asks_move c.args.body.now letter
+    c.move_to.ensures ∙ asks_move c.args.body.now letter
 
 pub returns-in-108 : goal.returns-in-108
 returns-in-108 c =
     let letter : get_or c.args.body.now 0 0 ≡ 108 = search rules in
     c.look.ensures ∙ asks_look c.args.body.now letter
 
-pub returns-in-default·4 : goal.returns-in-default·4
-returns-in-default·4 c = asks_none c.args.body.now (search rules) (search rules) (search rules) (search rules)
+pub returns-in_default-4 : goal.returns-in_default-4
+returns-in_default-4 c = asks_none c.args.body.now (search rules) (search rules) (search rules) (search rules)

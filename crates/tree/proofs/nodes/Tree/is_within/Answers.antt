@@ -7,18 +7,18 @@ use Rattle.tree.specs.Contents.{place_model, nodes_of, parent_number}
 use Rattle.tree.proofs.Walks.{walk_none, walk_absent, walk_met, walk_up, none_past}
 use Rattle.tree.proofs.nodes.Tree.is_within.Goals as goal
 
-pub returns-in-default : goal.returns-in-default
-returns-in-default c =
+pub returns-in_default : goal.returns-in_default
+returns-in_default c =
     let t = c.args.self.now in
     let within : length (nodes_of t) ≤ 64 = omega (arith, length-map t.nodes place_model, t.whole) in
     sym (walk_absent (nodes_of t) (id_number c.args.top) 64 (64 - c.loop.counter) (none_past (nodes_of t) 64 within))
-    ∙ ap (λ o. is_within (64 - c.loop.counter) (nodes_of t) (id_number c.args.top) (parent_number o)) (sym c.in-default.is)
+    ∙ ap (λ o. is_within (64 - c.loop.counter) (nodes_of t) (id_number c.args.top) (parent_number o)) (sym c.in_default.is)
     ∙ c.loop.invariant
 
-pub returns-in-default-at : goal.returns-in-default-at
-returns-in-default-at c =
+pub returns-in_default-at : goal.returns-in_default-at
+returns-in_default-at c =
     let t = c.args.self.now in
-    sym (walk_absent (nodes_of t) (id_number c.args.top) (id_number c.in-Some.here) (64 - c.loop.counter) (ap is_some (sym c.in-default-at.ensures)))
+    sym (walk_absent (nodes_of t) (id_number c.args.top) (id_number c.in-Some.here) (64 - c.loop.counter) (ap is_some (sym c.in_default-at.ensures)))
     ∙ ap (λ o. is_within (64 - c.loop.counter) (nodes_of t) (id_number c.args.top) (parent_number o)) (sym c.in-Some.is)
     ∙ c.loop.invariant
 

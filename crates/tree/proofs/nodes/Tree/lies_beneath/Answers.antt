@@ -10,4 +10,4 @@ pub returns : goal.returns
 returns c =
     let t = c.args.self.now in
     let within : length (nodes_of t) ≤ 64 = omega (arith, length-map t.nodes place_model, t.whole) in
-    subst (λ r. Decides r (Beneath (nodes_of t) (id_number c.args.top) (id_number c.args.node))) (sym c.is-within.ensures) (walk_decides (nodes_of t) within (id_number c.args.top) (id_number c.args.node))
+    subst (λ r. Decides r (Beneath (nodes_of t) (id_number c.args.top) (id_number c.args.node))) (sym c.is_within.ensures) (walk_decides (nodes_of t) within (id_number c.args.top) (id_number c.args.node))
