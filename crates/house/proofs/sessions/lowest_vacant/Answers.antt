@@ -6,4 +6,4 @@ use Rattle.house.specs.Houses.{place_model}
 use Rattle.house.proofs.sessions.lowest_vacant.Goals as goal
 
 pub returns : goal.returns
-returns c = c.unwrap-or.ensures ∙ ap (λ o. unwrap_or o 7) (c.lowest.ensures ∙ sym (lowest_map (λ t. not (stands (model c.args.server.now) t)) place_model c.args.places.now 0))
+returns c = c.unwrap_or.ensures ∙ ap (λ o. unwrap_or o 7) (c.lowest.ensures ∙ sym (lowest_map (λ t. not (stands (model c.args.server.now) t)) place_model c.args.places.now 0))

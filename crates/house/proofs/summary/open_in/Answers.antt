@@ -13,8 +13,8 @@ amount p = open_at (place_model p)
 pub loop-i-preserved : goal.loop-i-preserved
 loop-i-preserved c =
     let more = sum_by_more amount c.args.places.now c.loop-i.i c.index-places-i.result c.loop-i-test.true in
-    let here = c.open-calls-total.ensures.value ∙ ap amount c.index-places-i.is in
-    (omega (arith, c.open-calls-total.ensures.low, c.loop-i.invariant.0), omega (arith, more, here, c.loop-i.invariant.1))
+    let here = c.open_calls-total.ensures.value ∙ ap amount c.index-places-i.is in
+    (omega (arith, c.open_calls-total.ensures.low, c.loop-i.invariant.0), omega (arith, more, here, c.loop-i.invariant.1))
 
 pub returns : goal.returns
 returns c =

@@ -11,33 +11,33 @@ use Rattle.house.specs.Takes.{taken_answer, accepts, settled, Handing, unclaimed
 use Rattle.house.proofs.Taking.{refused, claimed, found_within, handed_at}
 use Rattle.house.proofs.takes.accept_at.Goals as goal
 
-pub returns-in-default : goal.returns-in-default
-returns-in-default c =
+pub returns-in_default : goal.returns-in_default
+returns-in_default c =
     let r = reply_model c.args.reply in
     let ts = map place_model c.args.places.now in
-    let none : None ≡ lowest_at (bears r) ts 0 = c.in-default.ensures ∙ sym (lowest_map (bears r) place_model c.args.places.now 0) in
+    let none : None ≡ lowest_at (bears r) ts 0 = c.in_default.ensures ∙ sym (lowest_map (bears r) place_model c.args.places.now 0) in
     let e = ap (when_found (unclaimed ts) (λ p. handed_in ts r p (get_or ts p None))) none in
     record { answer = ap (λ (h : Handing). h.answer) e; after = ap (λ (h : Handing). h.records) e }
 
-pub offset-bounds-places-place : goal.offset-bounds-places-place
-offset-bounds-places-place c =
+pub offset_bounds-places-place : goal.offset_bounds-places-place
+offset_bounds-places-place c =
     let h : c.in-Some.place < length c.args.places.now = found_within _ c.args.places.now c.in-Some.place (record { terminal = None }) c.in-Some.ensures in
     search rules
 
 pub bounds-places-place : goal.bounds-places-place
 bounds-places-place c = found_within _ c.args.places.now c.in-Some.place (record { terminal = None }) c.in-Some.ensures
 
-pub returns-in-err-closing : goal.returns-in-err-closing
-returns-in-err-closing c =
+pub returns-in_err-closing : goal.returns-in_err-closing
+returns-in_err-closing c =
     let r = reply_model c.args.reply in
     let ps = c.args.places.now in
     let ts = map place_model ps in
     let p = c.in-Some.place in
-    let a = c.in-err-closing.ensures in
+    let a = c.in_err-closing.ensures in
     let found : Some p ≡ lowest_at (bears r) ts 0 = c.in-Some.ensures ∙ sym (lowest_map (bears r) place_model ps 0) in
     let at : get_or ts p None ≡ place_model (get_or ps p c.index-places-place.result) = get_or-map place_model ps p c.index-places-place.result None (found_within _ ps p c.index-places-place.result c.in-Some.ensures) in
-    let b = err_from_is_err_and c.from-residual.result c.from-residual.ensures.1 in
-    let x = refused ts r p (get_or ts p None) (refusal_model c.in-err-closing.field-0.0) (a.answer ∙ ap (λ o. accepts o r) (sym at)) in
+    let b = err_from_is_err_and c.from_residual.result c.from_residual.ensures.1 in
+    let x = refused ts r p (get_or ts p None) (refusal_model c.in_err-closing.field-0.0) (a.answer ∙ ap (λ o. accepts o r) (sym at)) in
     let e = handed_at ts r p found ∙ x.none in
     record {
       answer = ap (answer_by taken_answer) (b.1 ∙ ap Err b.2) ∙ ap refusal x.is ∙ ap (λ (h : Handing). h.answer) (sym e);
@@ -50,7 +50,7 @@ returns c =
     let ps = c.args.places.now in
     let ts = map place_model ps in
     let p = c.in-Some.place in
-    let a = c.in-ok-closing.ensures in
+    let a = c.in_ok-closing.ensures in
     let found : Some p ≡ lowest_at (bears r) ts 0 = c.in-Some.ensures ∙ sym (lowest_map (bears r) place_model ps 0) in
     let at : get_or ts p None ≡ place_model (get_or ps p c.index-places-place.result) = get_or-map place_model ps p c.index-places-place.result None (found_within _ ps p c.index-places-place.result c.in-Some.ensures) in
     let e = handed_at ts r p found ∙ claimed ts r p (get_or ts p None) _ (a.answer ∙ ap (λ o. accepts o r) (sym at)) in

@@ -12,13 +12,13 @@ use Rattle.house.proofs.Calling.{close_is, place_none, place_some, called}
 use Rattle.house.proofs.Meets.{meets_by}
 use Rattle.house.proofs.state.House.close.Goals as goal
 
-pub returns-in-err-id : goal.returns-in-err-id
-returns-in-err-id g c =
+pub returns-in_err-id : goal.returns-in_err-id
+returns-in_err-id g c =
     let P = parts g.S.Service g.Q.Channel g.R.Channel in
     let h = c.args.self.now in
     let m = house_state g.S.Service g.Q.Channel g.R.Channel h in
-    let p = err_from_is_err_and c.from-residual.result c.from-residual.ensures.1 in
-    let e = close_is P m c.args.terminal ∙ place_none P m (λ id. server_by P m (close_session m.server id)) c.args.terminal (refusal_model c.in-err-id.field-0.0) c.in-err-id.ensures in
+    let p = err_from_is_err_and c.from_residual.result c.from_residual.ensures.1 in
+    let e = close_is P m c.args.terminal ∙ place_none P m (λ id. server_by P m (close_session m.server id)) c.args.terminal (refusal_model c.in_err-id.field-0.0) c.in_err-id.ensures in
     meets_by g.S.Service g.Q.Channel g.R.Channel h h _ _ _ e (ap (answer_by (λ _. ok)) (p.1 ∙ ap Err p.2)) refl
 
 pub returns : goal.returns
@@ -26,6 +26,6 @@ returns g c =
     let P = parts g.S.Service g.Q.Channel g.R.Channel in
     let h = c.args.self.now in
     let m = house_state g.S.Service g.Q.Channel g.R.Channel h in
-    let e = close_is P m c.args.terminal ∙ place_some P m (λ id. server_by P m (close_session m.server id)) c.args.terminal (id_model c.in-ok-id.id) c.in-ok-id.ensures in
+    let e = close_is P m c.args.terminal ∙ place_some P m (λ id. server_by P m (close_session m.server id)) c.args.terminal (id_model c.in_ok-id.id) c.in_ok-id.ensures in
     let x = called P m c.close.result (model c.close.new.self) _ c.close.ensures.answer c.close.ensures.state in
     meets_by g.S.Service g.Q.Channel g.R.Channel h (record { server = c.close.new.self; service = h.service; places = h.places; requests = h.requests; replies = h.replies }) _ _ _ e x.answer x.state

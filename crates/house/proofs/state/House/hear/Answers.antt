@@ -20,13 +20,13 @@ returns-then-scratch-lt-ROOM g c =
       scratch = ap (λ (x : Step P). laid x.took c.args.scratch.now) (sym e);
     }
 
-pub returns-in-default : goal.returns-in-default
-returns-in-default g c =
+pub returns-in_default : goal.returns-in_default
+returns-in_default g c =
     let P = parts g.S.Service g.Q.Channel g.R.Channel in
     let h = c.args.self.now in
     let m = house_state g.S.Service g.Q.Channel g.R.Channel h in
     let room = length c.args.scratch.now in
-    let a = c.in-default.ensures in
+    let a = c.in_default.ensures in
     let with : P.requests.State → Model P = λ x. record { server = m.server; terminals = m.terminals; content = m.content; requests = x; replies = m.replies } in
     let e = hear_none P m (told_model c.args.told) room c.if-scratch-lt-ROOM.false a.gave in
     record {

@@ -24,26 +24,26 @@ returns-then-scratch-lt-ROOM g c =
       scratch = ap (λ (x : Step P). laid x.put c.args.scratch.now) (sym e);
     }
 
-pub returns-in-err-id : goal.returns-in-err-id
-returns-in-err-id g c =
+pub returns-in_err-id : goal.returns-in_err-id
+returns-in_err-id g c =
     let P = parts g.S.Service g.Q.Channel g.R.Channel in
     let h = c.args.self.now in
     let m = house_state g.S.Service g.Q.Channel g.R.Channel h in
-    let p = err_from_is_err_and c.from-residual.result c.from-residual.ensures.1 in
-    let e = resume_none P m c.args.terminal c.args.slot (length c.args.scratch.now) (refusal_model c.in-err-id.field-0.0) c.if-scratch-lt-ROOM.false c.in-err-id.ensures in
+    let p = err_from_is_err_and c.from_residual.result c.from_residual.ensures.1 in
+    let e = resume_none P m c.args.terminal c.args.slot (length c.args.scratch.now) (refusal_model c.in_err-id.field-0.0) c.if-scratch-lt-ROOM.false c.in_err-id.ensures in
     record {
       met = meets_by g.S.Service g.Q.Channel g.R.Channel h h _ _ _ e (ap (answer_by (λ _. ok)) (p.1 ∙ ap Err p.2)) refl;
       scratch = ap (λ (x : Step P). laid x.put c.args.scratch.now) (sym e);
     }
 
-pub returns-in-err-answer : goal.returns-in-err-answer
-returns-in-err-answer g c =
+pub returns-in_err-answer : goal.returns-in_err-answer
+returns-in_err-answer g c =
     let P = parts g.S.Service g.Q.Channel g.R.Channel in
     let h = c.args.self.now in
     let m = house_state g.S.Service g.Q.Channel g.R.Channel h in
-    let a = c.in-err-answer.ensures in
-    let p = err_from_is_err_and c.from-residual-in-err-answer.result c.from-residual-in-err-answer.ensures.1 in
-    let e = resumed P m c.args.terminal c.args.slot (length c.args.scratch.now) (id_model c.in-ok-id.id) c.min-slot.result _ c.if-scratch-lt-ROOM.false c.in-ok-id.ensures c.min-slot.ensures a.answer in
+    let a = c.in_err-answer.ensures in
+    let p = err_from_is_err_and c.from_residual-in_err-answer.result c.from_residual-in_err-answer.ensures.1 in
+    let e = resumed P m c.args.terminal c.args.slot (length c.args.scratch.now) (id_model c.in_ok-id.id) c.min-slot.result _ c.if-scratch-lt-ROOM.false c.in_ok-id.ensures c.min-slot.ensures a.answer in
     let ended : ServerM → P.service.Content → Model P = λ v k. record { server = v; terminals = m.terminals; content = k; requests = m.requests; replies = m.replies } in
     record {
       met = meets_by g.S.Service g.Q.Channel g.R.Channel h (record { server = c.resume.new.self; service = c.resume.new.service; places = h.places; requests = h.requests; replies = h.replies }) _ _ _ e (ap (answer_by (λ _. ok)) (p.1 ∙ ap Err p.2)) (ap₂ ended (a.state ∙ ap (server_after P.service m.server) (sym a.answer)) (a.content ∙ ap (content_after P.service m.content) (sym a.answer)));
@@ -57,9 +57,9 @@ returns g c =
     let m = house_state g.S.Service g.Q.Channel g.R.Channel h in
     let n = model c.resume.new.self in
     let k = g.S.Service.content c.resume.new.service in
-    let e = resumed P m c.args.terminal c.args.slot (length c.args.scratch.now) (id_model c.in-ok-id.id) c.min-slot.result _ c.if-scratch-lt-ROOM.false c.in-ok-id.ensures c.min-slot.ensures c.in-ok-answer.ensures.answer in
+    let e = resumed P m c.args.terminal c.args.slot (length c.args.scratch.now) (id_model c.in_ok-id.id) c.min-slot.result _ c.if-scratch-lt-ROOM.false c.in_ok-id.ensures c.min-slot.ensures c.in_ok-answer.ensures.answer in
     let put : P.replies.State → Model P = λ x. record { server = n; terminals = m.terminals; content = k; requests = m.requests; replies = x } in
     record {
-      met = meets_by g.S.Service g.Q.Channel g.R.Channel h (record { server = c.resume.new.self; service = c.resume.new.service; places = h.places; requests = h.requests; replies = c.put-answer.new.replies }) _ _ _ e refl (ap put c.put-answer.ensures.after);
-      scratch = c.put-answer.ensures.buffer ∙ ap (λ (x : Step P). laid x.put c.args.scratch.now) (sym e);
+      met = meets_by g.S.Service g.Q.Channel g.R.Channel h (record { server = c.resume.new.self; service = c.resume.new.service; places = h.places; requests = h.requests; replies = c.put_answer.new.replies }) _ _ _ e refl (ap put c.put_answer.ensures.after);
+      scratch = c.put_answer.ensures.buffer ∙ ap (λ (x : Step P). laid x.put c.args.scratch.now) (sym e);
     }

@@ -21,15 +21,15 @@ returns-then-scratch-lt-ROOM g c =
     let e = send_short P m c.args.terminal (length c.args.scratch.now) say (dispatched c.args.what) c.if-scratch-lt-ROOM.true in
     record { answer = ap (λ (x : Step P). x.answer) (sym e); state = ap (λ (x : Step P). x.after) (sym e); put = ap (λ (x : Step P). laid x.put c.args.scratch.now) (sym e) }
 
-pub returns-in-err-sent : goal.returns-in-err-sent
-returns-in-err-sent g c =
+pub returns-in_err-sent : goal.returns-in_err-sent
+returns-in_err-sent g c =
     let P = parts g.S.Service g.Q.Channel g.R.Channel in
     let m = house_state g.S.Service g.Q.Channel g.R.Channel c.args.self.now in
     let room = length c.args.scratch.now in
     let send = dispatched c.args.what in
-    let a = c.in-err-sent.ensures in
-    let p = err_from_is_err_and c.from-residual.result c.from-residual.ensures.1 in
-    let why = refusal_model c.in-err-sent.field-0.0 in
+    let a = c.in_err-sent.ensures in
+    let p = err_from_is_err_and c.from_residual.result c.from_residual.ensures.1 in
+    let why = refusal_model c.in_err-sent.field-0.0 in
     let is = told_err (sends_in room send (terminal_at P m c.args.terminal)) why a.wrote.answer in
     λ say.
     let e = send_refused P m c.args.terminal room say send why c.if-scratch-lt-ROOM.false is in
@@ -45,14 +45,14 @@ returns g c =
     let m = house_state g.S.Service g.Q.Channel g.R.Channel c.args.self.now in
     let room = length c.args.scratch.now in
     let send = dispatched c.args.what in
-    let a = c.in-ok-sent.ensures in
+    let a = c.in_ok-sent.ensures in
     let x = sends_in room send (terminal_at P m c.args.terminal) in
-    let whole : c.in-ok-sent.sent.len - 0 ≡ c.in-ok-sent.sent.len = omega arith in
-    let t = told_ok x c.in-ok-sent.sent a.wrote.answer in
+    let whole : c.in_ok-sent.sent.len - 0 ≡ c.in_ok-sent.sent.len = omega arith in
+    let t = told_ok x c.in_ok-sent.sent a.wrote.answer in
     λ say.
     let e = send_sent P m c.args.terminal room say send t.0 c.if-scratch-lt-ROOM.false t.1 in
     record {
       answer = ap (λ (r : Sent). say r.slot) t.2 ∙ ap (λ (x : Step P). x.answer) (sym e);
-      state = send_goes P m c.args.terminal room say send t.0 c.if-scratch-lt-ROOM.false t.1 _ _ _ a.after c.put.ensures.after (ap (λ n. take n c.send-at.new.scratch) whole ∙ message_is x _ t.0 a.wrote.message t.1);
+      state = send_goes P m c.args.terminal room say send t.0 c.if-scratch-lt-ROOM.false t.1 _ _ _ a.after c.put.ensures.after (ap (λ n. take n c.send_at.new.scratch) whole ∙ message_is x _ t.0 a.wrote.message t.1);
       put = a.wrote.scratch ∙ ap (scratch_after c.args.scratch.now) t.1 ∙ ap (λ (x : Step P). laid x.put c.args.scratch.now) (sym e);
     }

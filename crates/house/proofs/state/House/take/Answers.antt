@@ -18,13 +18,13 @@ returns-then-scratch-lt-ROOM g c =
       scratch = ap (λ (x : Step P). laid x.took c.args.scratch.now) (sym e);
     }
 
-pub returns-in-default : goal.returns-in-default
-returns-in-default g c =
+pub returns-in_default : goal.returns-in_default
+returns-in_default g c =
     let P = parts g.S.Service g.Q.Channel g.R.Channel in
     let h = c.args.self.now in
     let m = house_state g.S.Service g.Q.Channel g.R.Channel h in
     let room = length c.args.scratch.now in
-    let a = c.in-default.ensures in
+    let a = c.in_default.ensures in
     let e = take_none P m room c.if-scratch-lt-ROOM.false a.gave in
     record {
       met = meets_by g.S.Service g.Q.Channel g.R.Channel h (record { server = h.server; service = h.service; places = h.places; requests = h.requests; replies = c.take.new.self }) _ _ _ e refl (ap (with_replies P m room) (rested P.replies m.replies room c.if-scratch-lt-ROOM.false _ a.after));
