@@ -1,5 +1,5 @@
 -- What the bakehouse has in its bins.
-use Rattle.std.specs.Prelude.{ℕ, List, [], ◌∷◌, ◌++◌, replicate}
+use Rattle.std.specs.Prelude.{ℕ, List, [], ◌∷◌, replicate}
 use Rattle.ledger.specs.Ledger.{LedgerAsk, move, ledger_after}
 use Rattle.bakehouse.specs.declared.bins.Bin.{Bin}
 use Rattle.bakehouse.specs.declared.bins.Bin.TheVariants.{Flour, Sugar, Salt, Mixer}

@@ -1,5 +1,5 @@
 -- A new call that hear runs keeps the invariant.
-use Rattle.std.proofs.Common.{◌≡◌, ℕ, ltb, ◌⊎◌, List, ◌∷◌, length, Some, Ok, Option, sym, refl, ap, ◌∙◌, subst, inl, ⊎_elim, arith}
+use Rattle.std.proofs.Common.{◌≡◌, ℕ, ltb, List, ◌∷◌, length, Some, Ok, Option, sym, refl, ap, ◌∙◌, subst, inl, ⊎_elim, arith}
 use Rattle.std.proofs.lemmas.List.{length-set}
 use Rattle.common.specs.Bytes.{Bytes}
 use Rattle.wire.specs.Wire.{Request, reply_message}

@@ -1,5 +1,5 @@
 -- The house as a whole, and the nine calls: what each leaves, answers, puts and takes.
-use Rattle.std.specs.Prelude.{ℕ, Bool, false, cond, not, List, set, is_some, Some, None, Ok, Err, Option, Result, nat_lt, slice_index_or, slice_set}
+use Rattle.std.specs.Prelude.{ℕ, Bool, false, cond, not, List, is_some, Some, None, Ok, Err, Option, Result, nat_lt, slice_index_or, slice_set}
 use Rattle.std.specs.Option.{unwrap_or}
 use Rattle.common.specs.Bytes.{Bytes}
 use Rattle.wire.specs.Wire.{same_id, Reply, reply_message, read_reply, Refusal, row_of, short_scratch, no_terminal, nothing_waits, no_call}

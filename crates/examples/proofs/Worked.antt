@@ -6,7 +6,6 @@ use Rattle.wire.specs.Wire.{Reply, request_message, reply_message, read_request,
 use Rattle.slots.specs.Slots.{front_changed}
 use Rattle.server.specs.Server as server
 use Rattle.server.specs.Server.{SlotM, new_slot, with_open, finished}
-use Rattle.tree.specs.Tree as tree
 use Rattle.terminal.specs.Terminal as terminal
 use Rattle.terminal.specs.Terminal.{TerminalM, OpenCall, learns}
 use Rattle.exactly_once.specs.Steps as steps

@@ -8,7 +8,7 @@ use Rattle.service.specs.Service.{ServiceModel}
 use Rattle.wire.specs.Wire.{SessionId, Refusal, short_scratch, nothing_waits, not_standing, no_work}
 use Rattle.server.specs.Server.{ServerM, SessionM, Served, fault, says, old, work, Run, slot_at, is_working, works_at, run_slot, session_of, run_work, set_work_aside, resume_work, serve}
 use Rattle.exactly_once.specs.History.{Told, run, aside}
-use Rattle.exactly_once.specs.Steps.{Parts, Model, Step, terminal_at, refuse, rest_requests, hear_run, hear_aside, hear_served, hear_request, hear_step, resume_by, resume_step}
+use Rattle.exactly_once.specs.Steps.{Parts, Model, terminal_at, refuse, rest_requests, hear_run, hear_aside, hear_served, hear_request, hear_step, resume_by, resume_step}
 use Rattle.house.specs.Sessions.{id_in}
 use Rattle.house.proofs.Calling.{at_place, place_none, place_some}
 use Rattle.house.proofs.Rooms.{given}

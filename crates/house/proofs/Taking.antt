@@ -6,9 +6,8 @@ use Rattle.common.specs.Search.{when_found, lowest_at}
 use Rattle.slots.proofs.Slots.{lowest_some}
 use Rattle.channel.specs.Channel.{take_gives}
 use Rattle.wire.specs.Wire.{Reply, Refusal, read_reply, short_scratch, nothing_waits, no_call}
-use Rattle.terminal.specs.Terminal.{TerminalM, OpenCall, Effect, end_at, belongs, reply_effect, accept_effect, after_accept, after_effect}
-use Rattle.terminal.specs.Replies.{accept_answer}
-use Rattle.exactly_once.specs.History.{Answer, taken}
+use Rattle.terminal.specs.Terminal.{TerminalM, Effect, end_at, belongs, reply_effect, accept_effect, after_accept, after_effect}
+use Rattle.exactly_once.specs.History.{taken}
 use Rattle.exactly_once.specs.Steps.{Parts, Model, Step, terminal_at, bears, refuse, rest_replies, take_stops, take_effect, take_at, take_read, take_step}
 use Rattle.house.specs.Takes.{accepts, settled, Handing, unclaimed, claimed_by, handed_in, handed, received}
 use Rattle.house.proofs.Rooms.{given}

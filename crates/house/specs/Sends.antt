@@ -13,7 +13,7 @@ use Rattle.terminal.specs.Terminal.{TerminalM, Sending, order_sends, part_sends,
 use Rattle.terminal.specs.Sends.{in_scratch, told, scratch_after, message_of, front_of}
 use Rattle.exactly_once.specs.History.{Answer}
 use Rattle.exactly_once.specs.Houses.{parts}
-use Rattle.exactly_once.specs.Steps.{Step, send_step}
+use Rattle.exactly_once.specs.Steps.{send_step}
 use Rattle.house.specs.declared.sends.Dispatch.{Dispatch}
 use Rattle.house.specs.declared.sends.Dispatch.TheVariants.{Order, Part, Resend}
 use Rattle.house.specs.declared.state.House.{House}

@@ -1,12 +1,12 @@
 -- A body keeps the grams and the size of every bin; so does a run of them.
-use Rattle.std.proofs.Common.{◌≡◌, ℕ, ◌+◌, ◌-◌, ◌<◌, ◌≤◌, Bool, true, false, cond, eqb, ◌≢◌, ◌⊎◌, List, [], ◌∷◌, length, get_or, set, sym, refl, ap, ◌∙◌, inl, inr, arith}
+use Rattle.std.proofs.Common.{◌≡◌, ℕ, ◌+◌, ◌-◌, ◌<◌, ◌≤◌, Bool, true, false, cond, eqb, ◌⊎◌, List, [], ◌∷◌, length, get_or, set, sym, refl, ◌∙◌, inl, inr, arith}
 use Rattle.std.proofs.lemmas.List.{length-set, get_or-set_same, get_or-set_other, set_past}
 use Rattle.std.proofs.lemmas.List.Sums.{sum_by-set}
 use Rattle.std.proofs.lemmas.Bool.{cases_eq, cases_lt, eqb-true, eqb-false}
 use Rattle.std.proofs.lemmas.Bool.Decides.{nat_tests}
 use Rattle.common.specs.Bytes.{Bytes}
 use Rattle.ledger.specs.Ledger.{LedgerAsk, move, count, unfit, ledger_ask, move_status, moved, ledger_after, ledger_model}
-use Rattle.ledger.specs.Runs.{grams, Sound, after_run}
+use Rattle.ledger.specs.Runs.{grams, after_run}
 
 -- a move that can be done
 record Doable (bins : List ℕ) (from to amount : ℕ) : Type 0 where

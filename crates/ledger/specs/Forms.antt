@@ -1,5 +1,5 @@
 -- The code's enums: what each case means, its number and its bytes.
-use Rattle.std.specs.Prelude.{ℕ, cond, ◌&&◌, List, [], ◌∷◌, ◌++◌, length, Some, None, Option, ◌==◌, slice_index}
+use Rattle.std.specs.Prelude.{ℕ, cond, ◌&&◌, [], ◌∷◌, ◌++◌, length, Some, None, Option, ◌==◌, slice_index}
 use Rattle.common.specs.Bytes.{Bytes, be32, bytes4}
 use Rattle.ledger.specs.Ledger.{LedgerAsk, move, count, unfit}
 use Rattle.ledger.specs.declared.body.Ask.{Ask}

@@ -1,5 +1,5 @@
 -- A reply within its bounds has no forbidden field.
-use Rattle.std.proofs.Common.{◌≡◌, ℕ, ◌≤◌, true, ltb, length, None, refl}
+use Rattle.std.proofs.Common.{◌≡◌, ◌≤◌, true, length, None, refl}
 use Rattle.std.proofs.lemmas.Bool.{le-ltb}
 use Rattle.wire.specs.declared.statuses.Status.{Status}
 use Rattle.wire.specs.declared.statuses.Status.TheVariants.{Ok, Delay, BadSession, BadSlot, SeqMisordered, RetryUncachedRep, SeqFalseRetry, BadHighSlot}

@@ -1,5 +1,5 @@
 -- A search finds what passes, and nothing beyond it does.
-use Rattle.std.proofs.Common.{◌≡◌, ℕ, zero, suc, ◌+◌, ◌<◌, ◌≤◌, Bool, true, false, cond, List, [], ◌∷◌, Some, None, Option, sym, refl, ap, ◌∙◌, arith}
+use Rattle.std.proofs.Common.{◌≡◌, ℕ, zero, suc, ◌+◌, ◌<◌, ◌≤◌, Bool, true, false, cond, List, [], ◌∷◌, Some, None, Option, refl, ap, ◌∙◌, arith}
 use borrow.Author.Tests.{clash}
 use Rattle.common.specs.Search.{lowest_at}
 use Rattle.slots.specs.Slots.{highest_at}

@@ -1,5 +1,5 @@
 -- The slot table: what is asked of a list of records, at both ends alike.
-use Rattle.std.specs.Prelude.{ℕ, ◌+◌, Bool, cond, List, [], ◌∷◌, ◌++◌, map, take, drop, Some, None, Option, nat_lt}
+use Rattle.std.specs.Prelude.{ℕ, ◌+◌, Bool, cond, List, [], ◌∷◌, ◌++◌, map, take, drop, nat_lt}
 
 -- the highest index, counted from i, at which a test holds, or else `best`
 abbrev pub highest_at : {X : Type 0} → (X → Bool) → List X → ℕ → ℕ → ℕ

@@ -3,7 +3,7 @@ use Rattle.std.proofs.Common.{◌≡◌, ℕ, Bool, true, false, cond, ◌&&◌,
 use Rattle.std.proofs.lemmas.Bool.{cond-true, cond-false}
 use Rattle.common.specs.Search.{when_found}
 use Rattle.wire.specs.Wire.{Reply, same_id, no_call}
-use Rattle.terminal.specs.Terminal.{OpenCall, TerminalM, end_at, belongs, reply_effect, accept_effect, after_effect, after_accept}
+use Rattle.terminal.specs.Terminal.{OpenCall, TerminalM, end_at, belongs, reply_effect, after_effect, after_accept}
 use Rattle.terminal.specs.Replies.{accept_answer, call_of}
 
 none_belongs : (a b n : Bool) (o : Option OpenCall) → None ≡ cond (a && b) (cond n o None) None → (a && (b && (is_some o && n))) ≡ false

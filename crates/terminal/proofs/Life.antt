@@ -1,13 +1,12 @@
 -- What an event does to one slot, and to the slots as a whole.
-use Rattle.std.proofs.Common.{◌≡◌, ℕ, zero, suc, ◌+◌, ◌<◌, ◌≤◌, Bool, true, false, cond, ◌&&◌, ltb, ◌⊎◌, List, [], ◌∷◌, ◌++◌, map, length, get_or, take, drop, set, is_some, Some, None, Ok, Err, Option, Result, sym, refl, ap, ◌∙◌, subst, inl, inr, ⊎_elim, arith}
+use Rattle.std.proofs.Common.{◌≡◌, ℕ, zero, suc, ◌+◌, Bool, true, false, cond, ◌&&◌, ltb, List, [], ◌∷◌, map, length, get_or, set, is_some, Some, None, Ok, Err, Option, Result, sym, refl, ap, ◌∙◌, subst}
 use Rattle.std.proofs.lemmas.List.{length-set, length-map}
-use Rattle.std.proofs.lemmas.Bool.{cond-true, cond-false}
 use Rattle.std.specs.Option.{option_map}
 use Rattle.common.specs.Search.{when_found}
 use Rattle.slots.specs.Slots.{front_changed}
 use Rattle.slots.proofs.Slots.{front_length}
-use Rattle.wire.specs.Wire.{Reply, Refusal, SessionId}
-use Rattle.terminal.specs.Terminal.{OpenCall, EndM, TerminalM, Sending, Effect, answered, done, unknown, still_open, new_end, end_at, with_end, with_usable, begin, begun, is_busy, order_sends, part_sends, after_sending, after_accept, after_effect, reply_effect, belongs, closed, at_rest, heard_target, stale, stale_call, parted, learns_target, learns}
+use Rattle.wire.specs.Wire.{Reply, Refusal}
+use Rattle.terminal.specs.Terminal.{OpenCall, EndM, TerminalM, Sending, Effect, answered, done, unknown, still_open, new_end, end_at, with_end, with_usable, begun, is_busy, order_sends, part_sends, after_sending, after_accept, after_effect, reply_effect, belongs, closed, at_rest, heard_target, stale, stale_call, parted, learns_target, learns}
 use Rattle.terminal.specs.Laws.{Event, ordered, parted_with, heard, after_event}
 use Rattle.terminal.proofs.Steps.{Begins, order_begins, part_begins, ready_parts}
 

@@ -1,16 +1,15 @@
 -- The laws over a terminal's life.
-use Rattle.std.proofs.Common.{◌≡◌, ℕ, ◌+◌, ◌<◌, ◌≤◌, Bool, true, false, cond, ◌&&◌, ltb, leb, List, [], ◌∷◌, map, length, get_or, set, is_some, Some, None, Ok, Err, Option, Result, sym, refl, ap, ◌∙◌, subst, arith}
+use Rattle.std.proofs.Common.{◌≡◌, ℕ, ◌≤◌, Bool, true, false, List, [], ◌∷◌, length, Some, None, Ok, Err, Option, Result, sym, refl, ap, ◌∙◌, subst, arith}
 use Rattle.std.proofs.lemmas.List.{get_or-set_same}
-use Rattle.std.proofs.lemmas.Bool.{cond-true, cond-false, lt-ltb, and_from}
 use Rattle.std.specs.Option.{option_map}
 use Rattle.common.specs.Bytes.{Bytes}
 use Rattle.common.specs.Search.{when_found}
-use Rattle.wire.specs.Wire.{Reply, Refusal, SessionId, no_open_call, request_message}
-use Rattle.terminal.specs.Terminal.{OpenCall, EndM, TerminalM, Sending, new_end, end_at, begin, begun, is_busy, order_sends, part_sends, resend_sends, stale_call, call_request}
+use Rattle.wire.specs.Wire.{Refusal, SessionId, no_open_call, request_message}
+use Rattle.terminal.specs.Terminal.{OpenCall, EndM, TerminalM, Sending, new_end, end_at, begun, is_busy, resend_sends, stale_call, call_request}
 use Rattle.terminal.specs.Sends.{message_of}
-use Rattle.terminal.specs.Laws.{Event, ordered, parted_with, heard, after_event, after_run, BeginsCall, StaysOpen, ResendsFirstBytes, NumbersNeverFall, BegunAtRest, OneCallASlot}
+use Rattle.terminal.specs.Laws.{Event, ordered, parted_with, heard, after_event, after_run, BeginsCall, StaysOpen, ResendsFirstBytes, NumbersNeverFall, OneCallASlot}
 use Rattle.terminal.proofs.Steps.{Begins, order_begins, part_begins, ready_parts, begins_resends, resend_low}
-use Rattle.terminal.proofs.Life.{Same, same_busy, Moves, stays, begins, closes, moves, Kept, kept, begin_kept}
+use Rattle.terminal.proofs.Life.{Same, Moves, stays, begins, closes, moves, Kept, kept, begin_kept}
 
 -- what a resend sends, from the slot's number and call; whether it is fresh does not matter
 sent_again : SessionId → ℕ → ℕ → Option OpenCall → Result Bytes Refusal

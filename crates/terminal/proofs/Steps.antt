@@ -1,13 +1,13 @@
 -- Order, part and resend by their cases; and that a call begun is resent as it was sent.
-use Rattle.std.proofs.Common.{◌≡◌, ℕ, ◌+◌, ◌<◌, ◌≤◌, Bool, true, false, cond, not, ◌&&◌, ltb, leb, List, ◌++◌, length, get_or, drop, set, Some, None, Ok, Err, Option, Result, sym, refl, ap, ◌∙◌, subst, arith}
+use Rattle.std.proofs.Common.{◌≡◌, ℕ, ◌<◌, ◌≤◌, Bool, true, false, cond, not, ◌&&◌, ltb, leb, ◌++◌, length, get_or, drop, Some, None, Ok, Err, Option, Result, sym, refl, ap, ◌∙◌, subst, arith}
 use Rattle.std.proofs.lemmas.List.{get_or-set_same}
 use Rattle.std.proofs.lemmas.Bool.{cond-true, cond-false, and_parts, leb-true, ltb-true, le-ltb, lt-ltb}
 use Rattle.common.specs.Bytes.{Bytes}
 use Rattle.common.specs.Search.{when_found, lowest_at}
-use Rattle.slots.specs.Slots.{has_next, highest_at}
-use Rattle.slots.proofs.Slots.{Lowest, lowest_some, highest_low}
-use Rattle.wire.specs.Wire.{Request, Refusal, short_scratch, forbidden_request, permits, write_answer, write_out, long_body, no_slot, no_open_call, no_part, request_message}
-use Rattle.terminal.specs.Terminal.{OpenCall, EndM, TerminalM, Sending, new_end, end_at, with_end, begin, begun, is_ready, is_busy, order_call, order_highest, order_sends, part_call, part_sends, can_part, resent, resend_sends, call_request, after_sending}
+use Rattle.slots.specs.Slots.{has_next}
+use Rattle.slots.proofs.Slots.{lowest_some, highest_low}
+use Rattle.wire.specs.Wire.{Request, Refusal, forbidden_request, permits, write_answer, long_body, no_slot, no_open_call, no_part, request_message}
+use Rattle.terminal.specs.Terminal.{OpenCall, EndM, TerminalM, Sending, new_end, end_at, begin, begun, is_ready, is_busy, order_call, order_highest, order_sends, part_call, part_sends, can_part, resent, resend_sends, call_request, after_sending}
 use Rattle.terminal.specs.Sends.{slot_of, in_scratch, told, scratch_after}
 
 -- what a body's copy tells of its length

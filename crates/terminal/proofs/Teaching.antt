@@ -1,10 +1,10 @@
 -- What replies teach: nothing, if their call is not fresh.
-use Rattle.std.proofs.Common.{◌≡◌, ℕ, ◌+◌, ◌<◌, ◌≤◌, Bool, true, false, cond, ◌&&◌, eqb, ltb, leb, List, [], ◌∷◌, length, get_or, set, Some, None, Option, sym, refl, ap, ◌∙◌, subst, arith}
+use Rattle.std.proofs.Common.{◌≡◌, ℕ, ◌<◌, ◌≤◌, Bool, true, false, cond, ◌&&◌, ltb, leb, List, [], ◌∷◌, length, set, Some, None, Option, sym, refl, ap, ◌∙◌, subst, arith}
 use Rattle.std.proofs.lemmas.List.{get_or-set_same}
-use Rattle.std.proofs.lemmas.Bool.{cond-true, cond-false, lt-ltb, leb-true, eq-eqb, and_from, and_parts}
+use Rattle.std.proofs.lemmas.Bool.{cond-true, lt-ltb, leb-true, eq-eqb, and_from, and_parts}
 use Rattle.std.specs.Option.{option_map}
 use Rattle.wire.specs.Wire.{Reply, same_id}
-use Rattle.terminal.specs.Terminal.{OpenCall, EndM, TerminalM, Effect, answered, done, unknown, still_open, new_end, end_at, with_usable, is_busy, after_accept, after_effect, reply_effect, belongs, closed, at_rest, heard_target, stale, stale_call, parted, learns_target, learns}
+use Rattle.terminal.specs.Terminal.{OpenCall, EndM, TerminalM, Effect, answered, done, unknown, still_open, new_end, end_at, with_usable, after_accept, after_effect, belongs, closed, at_rest, heard_target, stale, stale_call, parted, learns_target, learns}
 use Rattle.terminal.specs.Laws.{after_replies, TaughtNothing, StaleReply, StaleRepliesTeachNothing, GivenUpStaysShut}
 use Rattle.terminal.proofs.Accepts.{accept_settles}
 use Rattle.terminal.proofs.Life.{set_either, getD_mapped, accept_any, Kept, kept_then, end_kept, learns_target_kept}

@@ -1,7 +1,7 @@
 -- A body one byte too long is not read.
-use Rattle.std.proofs.Common.{◌≡◌, ℕ, ◌^◌, ◌<◌, ◌≤◌, Bool, cond, eqb, ltb, leb, length, drop, Some, None, Ok, Err, Result, sym, refl, ap, ◌∙◌, arith}
+use Rattle.std.proofs.Common.{◌≡◌, ◌^◌, ◌<◌, cond, eqb, ltb, leb, length, drop, Some, None, Err, Result, refl, ap, ◌∙◌, arith}
 use Rattle.std.proofs.lemmas.Bool.{cond-false, le-leb, lt-leb, le-ltb}
-use Rattle.wire.specs.Wire.{Request, Refusal, unreadable, request_message, then, permitted_at, body_at, read_request, forbidden_request, FitsRequest}
+use Rattle.wire.specs.Wire.{Request, Refusal, unreadable, request_message, then, permitted_at, body_at, read_request, FitsRequest}
 use Rattle.wire.specs.Bounds.{BodyBounds}
 use Rattle.wire.proofs.Fields.{then_ok, u32_of, permitted_of, head_of}
 use Rattle.wire.proofs.Exact.{reads_written, flag_low}

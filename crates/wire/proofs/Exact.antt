@@ -1,5 +1,5 @@
 -- Both messages: what is written is read, and nothing else is.
-use Rattle.std.proofs.Common.{◌≡◌, ℕ, zero, suc, ◌+◌, ◌^◌, ◌<◌, ◌≤◌, Bool, true, false, cond, ◌||◌, eqb, ltb, leb, ◌++◌, length, drop, Some, None, Ok, Option, sym, refl, ap, ◌∙◌, subst, ⊎_elim, arith}
+use Rattle.std.proofs.Common.{◌≡◌, ℕ, zero, suc, ◌^◌, ◌<◌, ◌≤◌, Bool, true, false, cond, ◌||◌, eqb, ltb, leb, ◌++◌, length, drop, Some, None, Ok, Option, sym, refl, ap, ◌∙◌, subst, ⊎_elim, arith}
 use Rattle.std.proofs.lemmas.Bool.{or_cases, cond-true, cond-false, leb-true, ltb-false, eqb-true, le-leb, le-ltb}
 use Rattle.common.specs.Bytes.{Bytes, bytes4}
 use Rattle.wire.specs.Wire.{Request, Reply, request_message, reply_message, is_status, top_with, longest_with, forbidden_request, forbidden_reply, u32_at, read_request, read_reply, FitsRequest, FitsReply, ByteString, ReadsWritten}

@@ -1,7 +1,7 @@
 -- A message read in groups is read field by field.
-use Rattle.std.proofs.Common.{◌≡◌, ℕ, ◌+◌, eqb, leb, length, Ok, Err, Result, refl, ap, ◌∙◌}
+use Rattle.std.proofs.Common.{◌≡◌, ℕ, ◌+◌, eqb, leb, length, Ok, Err, Result, refl}
 use Rattle.common.specs.Bytes.{Bytes}
-use Rattle.wire.specs.Wire.{SessionId, Request, Reply, Refusal, is_status, top_with, longest_with, padded, then, u32_at, permitted_at, id_at, body_at, end_at, read_request, read_reply}
+use Rattle.wire.specs.Wire.{Refusal, is_status, top_with, longest_with, padded, then, u32_at, permitted_at, id_at, body_at, end_at, read_request, read_reply}
 use Rattle.wire.specs.Groups.{Head, head_at, Reach, reach_at, last_at, request_at, reply_at}
 
 three : {X Y Z W V : Type 0} (f : X → Y → Z → W) (go : W → Result V Refusal) (r : Result X Refusal) (s : Result Y Refusal) (t : Result Z Refusal) → then (then r (λ x. then s (λ y. then t (λ z. Ok (f x y z))))) go ≡ then r (λ x. then s (λ y. then t (λ z. go (f x y z))))

@@ -1,5 +1,5 @@
 -- The longest body, on both sides of its bound.
-use Rattle.std.specs.Prelude.{◌≡◌, ℕ, length, Ok, Err}
+use Rattle.std.specs.Prelude.{◌≡◌, length, Ok, Err}
 use Rattle.wire.specs.Wire.{Request, unreadable, request_message, read_request, FitsRequest}
 
 -- A request with a body of 256 bytes is read; with 257 it stops at the length's offset.

@@ -1,5 +1,5 @@
 -- Fields that are read together, at any offset.
-use Rattle.std.specs.Prelude.{ℕ, ◌+◌, length, Ok, Err, Result, ◌==◌, nat_eq, nat_le}
+use Rattle.std.specs.Prelude.{ℕ, ◌+◌, length, Ok, Result, ◌==◌, nat_eq, nat_le}
 use Rattle.common.specs.Bytes.{Bytes}
 use Rattle.wire.specs.declared.messages.Head.{Head as CodeHead}
 use Rattle.wire.specs.declared.messages.Reach.{Reach as CodeReach}

@@ -1,4 +1,4 @@
-use Rattle.std.proofs.Common.{◌≡◌, ◌∙◌}
+use Rattle.std.proofs.Common.{◌∙◌}
 use Rattle.wire.specs.Groups.{reply_at}
 use Rattle.wire.proofs.Grouped.{reply_is}
 use Rattle.wire.proofs.read.read_reply.Goals as goal

@@ -1,4 +1,4 @@
-use Rattle.std.proofs.Common.{◌≡◌, ◌∙◌}
+use Rattle.std.proofs.Common.{◌∙◌}
 use Rattle.wire.specs.Groups.{request_at}
 use Rattle.wire.proofs.Grouped.{request_is}
 use Rattle.wire.proofs.read.read_request.Goals as goal

@@ -1,4 +1,4 @@
-use Rattle.std.proofs.Common.{◌≡◌, ◌+◌, ◌-◌, sym, ap, ◌∙◌, arith}
+use Rattle.std.proofs.Common.{◌≡◌, ◌+◌, ◌-◌, sym, ◌∙◌, arith}
 use Rattle.wire.proofs.Zeros.{zeros_more, zeros_stop, zeros_none}
 use Rattle.wire.proofs.reader.zeros.Goals as goal
 

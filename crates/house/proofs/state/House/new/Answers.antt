@@ -1,10 +1,9 @@
-use Rattle.std.proofs.Common.{◌≡◌, ◌^◌, ◌<◌, [], sym, refl, ap, subst, rules}
+use Rattle.std.proofs.Common.{◌^◌, ◌<◌, [], sym, refl, ap, subst, rules}
 use Rattle.server.specs.Server.{ServerM}
-use Rattle.server.specs.Models.{model}
 use Rattle.exactly_once.specs.Houses.{parts}
 use Rattle.exactly_once.specs.Lived.{Lived, made}
 use Rattle.exactly_once.specs.Steps.{Model}
-use Rattle.house.specs.Houses.{house_state, new_house}
+use Rattle.house.specs.Houses.{new_house}
 use Rattle.house.proofs.state.House.new.Goals as goal
 
 pub returns : goal.returns

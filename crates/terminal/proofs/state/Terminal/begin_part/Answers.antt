@@ -1,4 +1,4 @@
-use Rattle.std.proofs.Common.{◌≡◌, ◌-◌, true, false, sym, ap, ◌∙◌}
+use Rattle.std.proofs.Common.{◌-◌, true, false, sym, ap, ◌∙◌}
 use Rattle.terminal.specs.Terminal.{TerminalM, after_sending, begin}
 use Rattle.terminal.specs.Models.{terminal_model}
 use Rattle.terminal.specs.Sends.{slot_of}

@@ -1,6 +1,5 @@
 use Rattle.std.proofs.Common.{◌≡◌, suc, ◌+◌, ◌-◌, ◌≤◌, length, is_some, sym, ap, ◌∙◌, arith}
 use Rattle.std.proofs.lemmas.List.{length-map}
-use Rattle.tree.specs.Tree as tree
 use Rattle.tree.specs.Tree.{is_within, parent_of}
 use Rattle.tree.specs.Forms.{id_number}
 use Rattle.tree.specs.Contents.{place_model, nodes_of, parent_number}

@@ -1,7 +1,7 @@
-use Rattle.std.proofs.Common.{◌≡◌, ◌++◌, sym, ap, ◌∙◌, arith}
+use Rattle.std.proofs.Common.{◌++◌, ap, ◌∙◌, arith}
 use Rattle.common.specs.Bytes.{bytes4}
 use Rattle.wire.specs.Wire.{body_field, reply_message}
-use Rattle.wire.specs.Models.{id_model, reply_model}
+use Rattle.wire.specs.Models.{reply_model}
 use Rattle.wire.specs.Written.{head_bytes, written}
 use Rattle.wire.proofs.Lengths.{length_reply}
 use Rattle.wire.proofs.Puts.{behind}

@@ -1,7 +1,7 @@
-use Rattle.std.proofs.Common.{◌≡◌, cond, ◌++◌, sym, ap, ◌∙◌, arith}
+use Rattle.std.proofs.Common.{cond, ◌++◌, ap, ◌∙◌, arith}
 use Rattle.common.specs.Bytes.{bytes4}
 use Rattle.wire.specs.Wire.{body_field, request_message}
-use Rattle.wire.specs.Models.{id_model, request_model}
+use Rattle.wire.specs.Models.{request_model}
 use Rattle.wire.specs.Written.{head_bytes, written}
 use Rattle.wire.proofs.Lengths.{length_request}
 use Rattle.wire.proofs.Puts.{behind, flag_is}

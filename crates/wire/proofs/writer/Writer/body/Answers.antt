@@ -1,4 +1,4 @@
-use Rattle.std.proofs.Common.{◌≡◌, ◌-◌, ◌++◌, length, replicate, ap, ◌∙◌, arith}
+use Rattle.std.proofs.Common.{◌-◌, ◌++◌, length, replicate, arith}
 use Rattle.common.specs.Bytes.{Bytes, bytes4}
 use Rattle.wire.specs.Wire.{padded}
 use Rattle.wire.proofs.Puts.{two}

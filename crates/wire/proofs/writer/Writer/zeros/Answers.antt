@@ -1,4 +1,4 @@
-use Rattle.std.proofs.Common.{◌≡◌, ◌+◌, ◌≤◌, ◌++◌, length, take, replicate, sym, refl, ap, ◌∙◌, arith, rules}
+use Rattle.std.proofs.Common.{◌≡◌, ◌+◌, ◌≤◌, ◌++◌, length, take, replicate, sym, refl, ap, ◌∙◌, rules}
 use Rattle.std.proofs.lemmas.Slice.{take-put_mid}
 use Rattle.wire.proofs.writer.Writer.zeros.Goals as goal
 
