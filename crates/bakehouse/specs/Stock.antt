@@ -1,5 +1,6 @@
 -- What the bakehouse has in its bins.
-use Rattle.std.specs.Prelude.{ℕ, List, [], ◌∷◌, replicate}
+use Rattle.std.specs.Prelude.{ℕ, List, ◌∷◌, replicate}
+use Rattle.std.specs.List.{fold}
 use Rattle.ledger.specs.Ledger.{LedgerAsk, move, ledger_after}
 use Rattle.bakehouse.specs.declared.bins.Bin.{Bin}
 use Rattle.bakehouse.specs.declared.bins.Bin.TheVariants.{Flour, Sugar, Salt, Mixer}
@@ -22,5 +23,4 @@ withdrawal_ask w = move (bin_number w.bin) 31 w.grams
 
 -- the bins after these withdrawals
 abbrev pub withdrawn : List ℕ → List Withdrawal → List ℕ
-withdrawn bins [] = bins
-withdrawn bins (w ∷ ws) = withdrawn (ledger_after bins (withdrawal_ask w)) ws
+withdrawn bins ws = fold (λ held w. ledger_after held (withdrawal_ask w)) bins ws

@@ -1,6 +1,8 @@
 ghost use Rattle.std.specs.Prelude.{◌≡◌};
 ghost use Rattle.bakehouse.specs.Stock.{bin_number};
 
+use std::fmt;
+
 /// The bins that the bakehouse has in use.
 #[derive(Clone, Copy)]
 pub enum Bin {
@@ -12,25 +14,29 @@ pub enum Bin {
 
 impl Bin {
     pub const IN_USE: [Bin; 4] = [Bin::Flour, Bin::Sugar, Bin::Salt, Bin::Mixer];
+}
 
-    /// Its number in the ledger.
-    pub fn number(self) -> u8
-        ensures { result ≡ bin_number self }
-    {
-        match self {
+/// A bin's number in the ledger.
+impl From<Bin> for u8 {
+    ghost from_gives = { λ bin number. number ≡ bin_number bin };
+
+    fn from(bin: Bin) -> u8 {
+        match bin {
             Bin::Flour => 0,
             Bin::Sugar => 1,
             Bin::Salt => 3,
             Bin::Mixer => 31,
         }
     }
+}
 
-    pub fn name(self) -> &'static str {
-        match self {
+impl fmt::Display for Bin {
+    fn fmt<W: fmt::Write>(&self, f: &mut fmt::Formatter<W>) -> fmt::Result {
+        f.pad(match self {
             Bin::Flour => "flour",
             Bin::Sugar => "sugar",
             Bin::Salt => "salt",
             Bin::Mixer => "mixer",
-        }
+        })
     }
 }

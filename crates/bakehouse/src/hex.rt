@@ -6,14 +6,14 @@ pub struct Hex<'a>(pub &'a [u8]);
 
 impl fmt::Display for Hex<'_> {
     fn fmt<W: fmt::Write>(&self, f: &mut fmt::Formatter<W>) -> fmt::Result {
-        for (i, byte) in self.0.iter().enumerate() {
-            if i % 16 == 0 {
-                write!(f, "\n     ")?;
-            }
-            if i % 4 == 0 {
+        for line in self.0.chunks(16) {
+            write!(f, "\n     ")?;
+            for group in line.chunks(4) {
                 write!(f, " ")?;
+                for byte in group {
+                    write!(f, "{byte:02x}")?;
+                }
             }
-            write!(f, "{byte:02x}")?;
         }
         Ok(())
     }
@@ -26,8 +26,7 @@ pub struct Text<'a>(pub &'a [u8]);
 impl fmt::Display for Text<'_> {
     fn fmt<W: fmt::Write>(&self, f: &mut fmt::Formatter<W>) -> fmt::Result {
         for byte in self.0 {
-            let letter = char::from(*byte);
-            write!(f, "{letter}")?;
+            write!(f, "{}", char::from(*byte))?;
         }
         Ok(())
     }

@@ -1,17 +1,15 @@
 use crate::bins::Bin;
-use crate::prints::print_answer;
 use crate::shift::Shift;
 use crate::withdrawal::Withdrawal;
 use channel::Channel;
 use channel::pipe::Pipe;
 use channel::shelf::Shelf;
 use house::Told;
-use ledger::{Ledger, count_body};
-use slots::Body;
+use ledger::Ledger;
 use std::io;
 
 /// A counter whose requests lie on a shelf, where a later one can overtake.
-pub type Window<'a> = Shift<Ledger, Shelf<'a>, Pipe>;
+pub type Window<'a> = Shift<'a, Ledger, Shelf<'a>, Pipe>;
 
 /// The places that are heard, in turn: the second stays on the shelf once it was heard.
 pub const CHOICES: [u8; 8] = [0, 128, 1, 1, 1, 2, 1, 0];
@@ -26,89 +24,58 @@ pub const SECOND: Withdrawal = Withdrawal {
     grams: 70,
 };
 
-fn count_once(rt: &HostRuntime, window: &mut Window<'_>, why: &str) -> io::Result<()> {
-    window.order(rt, 0, true, &count_body(Bin::Salt.number()), why)?;
-    window.hear(rt, Told::Run, "it overtakes the copy that stayed")?;
-    let answered = window.take(rt, "the terminal hears the target with it")?;
-    print_answer(rt, answered)
+fn count_once(window: &mut Window<'_>) -> io::Result<()> {
+    window.count_salt(true, "any call will do to hear of it")?;
+    window.hear(Told::Run, "it overtakes the copy that stayed")?;
+    window.take_answer("the terminal hears the target with it")
 }
 
-fn print_bare(rt: &HostRuntime, bare: Option<Body>) -> io::Result<()> {
-    match bare {
+fn part_with_one(window: &mut Window<'_>) -> io::Result<()> {
+    window.part(0, 1, "a bare call in slot 1 offers it")?;
+    window.hear(Told::Run, "the slot shuts, and its tray is free")?;
+    match window.take("the terminal uses slot 1 no more")? {
         Some(body) => {
             let len = body.as_slice().len();
-            println!(rt; "    a bare call is answered with {len} bytes")
+            println!(window.rt; "    a bare call is answered with {len} bytes")
         }
         None => Ok(()),
     }
 }
 
 /// A copy of the first call of slot 1 stays behind.
-pub fn leave_behind(rt: &HostRuntime, window: &mut Window<'_>) -> io::Result<()> {
-    println!(rt; "A copy of a request stays behind on the shelf.")?;
-    window.open(rt, 1, "slots 0 and 1")?;
-    window.order(
-        rt,
-        0,
-        true,
-        &count_body(Bin::Salt.number()),
-        "how much salt is there?",
-    )?;
-    window.order(rt, 0, true, &FIRST.body(), "60 g of salt")?;
-    window.hear(rt, Told::Run, "counted")?;
-    window.hear(
-        rt,
-        Told::Run,
-        "the salt moves, and a copy stays on the shelf",
-    )?;
-    for _ in 0..2 {
-        let answered = window.take(rt, "a reply")?;
-        print_answer(rt, answered)?;
-    }
-    Ok(())
+pub fn leave_behind(window: &mut Window<'_>) -> io::Result<()> {
+    println!(window.rt; "A copy of a request stays behind on the shelf.")?;
+    window.open(1, "slots 0 and 1")?;
+    window.count_salt(true, "how much salt is there?")?;
+    window.withdraw(0, FIRST, "60 g of salt")?;
+    window.hear(Told::Run, "counted")?;
+    window.hear(Told::Run, "the salt moves, and a copy stays on the shelf")?;
+    window.take_answer("a reply")?;
+    window.take_answer("a reply")
 }
 
 /// Slot 1 is shut and opens again: it goes on with its numbers.
-pub fn part_and_return(rt: &HostRuntime, window: &mut Window<'_>) -> io::Result<()> {
-    println!(rt; "Slot 1 is parted with, and taken up again.")?;
-    window.retarget(rt, 0, 0, "the server wants slot 1 back")?;
-    count_once(rt, window, "any call will do to hear of it")?;
-    window.part(rt, 0, 1, "a bare call in slot 1 offers it")?;
-    window.hear(rt, Told::Run, "the slot shuts, and its tray is free")?;
-    let bare = window.take(rt, "the terminal uses slot 1 no more")?;
-    print_bare(rt, bare)?;
-    window.retarget(rt, 0, 1, "there are trays again, so slot 1 opens")?;
-    count_once(rt, window, "any call will do to hear of it")
+pub fn part_and_return(window: &mut Window<'_>) -> io::Result<()> {
+    println!(window.rt; "Slot 1 is parted with, and taken up again.")?;
+    window.retarget(0, 0, "the server wants slot 1 back")?;
+    count_once(window)?;
+    part_with_one(window)?;
+    window.retarget(0, 1, "there are trays again, so slot 1 opens")?;
+    count_once(window)
 }
 
 /// The copy is heard after slot 1 has gone on.
-pub fn turn_away(rt: &HostRuntime, window: &mut Window<'_>) -> io::Result<()> {
-    println!(rt; "The copy arrives at last, and is turned away.")?;
-    window.order(
-        rt,
-        0,
-        true,
-        &count_body(Bin::Salt.number()),
-        "how much salt is there?",
-    )?;
-    window.order(
-        rt,
-        0,
-        true,
-        &SECOND.body(),
-        "70 g of salt; its number is 3, not 1",
-    )?;
-    window.hear(rt, Told::Run, "the withdrawal overtakes the count")?;
-    window.hear(rt, Told::Run, "the count")?;
+pub fn turn_away(window: &mut Window<'_>) -> io::Result<()> {
+    println!(window.rt; "The copy arrives at last, and is turned away.")?;
+    window.count_salt(true, "how much salt is there?")?;
+    window.withdraw(0, SECOND, "70 g of salt; its number is 3, not 1")?;
+    window.hear(Told::Run, "the withdrawal overtakes the count")?;
+    window.hear(Told::Run, "the count")?;
     window.hear(
-        rt,
         Told::Run,
         "number 1 is behind, so the 60 g do not move again",
     )?;
-    for _ in 0..2 {
-        let answered = window.take(rt, "a reply")?;
-        print_answer(rt, answered)?;
-    }
-    let none = window.take(rt, "nobody waits for the late copy's status")?;
-    print_answer(rt, none)
+    window.take_answer("a reply")?;
+    window.take_answer("a reply")?;
+    window.take_answer("nobody waits for the late copy's status")
 }

@@ -33,15 +33,15 @@ fn close_book(rt: &HostRuntime, ledger: &Ledger, made: &[Withdrawal]) -> io::Res
 
 fn at_the_counter(rt: &HostRuntime) -> io::Result<()> {
     let replies = Loss::over(Pipe::new(), 3);
-    let mut counter = Shift::begin(opening_book(), shop_pile(), replies);
-    counter::doubled(rt, &mut counter)?;
-    counter::lost(rt, &mut counter)?;
-    counter::refused(rt, &mut counter)?;
-    counter::aside(rt, &mut counter)?;
-    counter::closed(rt, &mut counter)?;
-    counter::counted(rt, &mut counter)?;
-    counter::unkept(rt, &mut counter)?;
-    counter.inspect(rt)?;
+    let mut counter = Shift::begin(rt, opening_book(), shop_pile(), replies);
+    counter::doubled(&mut counter)?;
+    counter::lost(&mut counter)?;
+    counter::refused(&mut counter)?;
+    counter::aside(&mut counter)?;
+    counter::closed(&mut counter)?;
+    counter::counted(&mut counter)?;
+    counter::unkept(&mut counter)?;
+    counter.inspect()?;
     let made = [
         counter::SALT,
         counter::SUGAR,
@@ -53,10 +53,10 @@ fn at_the_counter(rt: &HostRuntime) -> io::Result<()> {
 
 fn at_the_window(rt: &HostRuntime) -> io::Result<()> {
     let requests = Shelf::over(&late::CHOICES);
-    let mut window = Shift::begin(opening_book(), requests, Pipe::new());
-    late::leave_behind(rt, &mut window)?;
-    late::part_and_return(rt, &mut window)?;
-    late::turn_away(rt, &mut window)?;
+    let mut window = Shift::begin(rt, opening_book(), requests, Pipe::new());
+    late::leave_behind(&mut window)?;
+    late::part_and_return(&mut window)?;
+    late::turn_away(&mut window)?;
     close_book(rt, window.house.service(), &[late::FIRST, late::SECOND])
 }
 

@@ -11,10 +11,7 @@ const WORDS: [&str; 3] = ["rye", "oat", "bun"];
 fn tell_next<C: Channel>(rt: &HostRuntime, channel: &mut C) -> io::Result<()> {
     let mut buffer = [0; 304];
     match channel.take(&mut buffer) {
-        Some(len) => {
-            let word = Text(&buffer[0..len]);
-            print!(rt; " {word}")
-        }
+        Some(len) => print!(rt; " {}", Text(&buffer[..len])),
         None => print!(rt; " -"),
     }
 }

@@ -1,52 +1,51 @@
 use crate::bins::Bin;
-use crate::hex::Hex;
-use ledger::{Answer, Ledger, Refused};
+use crate::shift::Shift;
+use crate::withdrawal::Withdrawal;
+use channel::Channel;
+use ledger::{Answer, Ledger, count_body, read_reply};
 use slots::Body;
 use std::io;
 
 pub fn print_book(rt: &HostRuntime, title: &str, ledger: &Ledger) -> io::Result<()> {
     println!(rt; "{title}")?;
     for bin in Bin::IN_USE {
-        let number = bin.number();
-        let name = bin.name();
+        let number = u8::from(bin);
         let grams = ledger.count(number).unwrap_or(0);
-        println!(rt; "  bin {number:>2}  {name:<6} {grams:>6} g")?;
+        println!(rt; "  bin {number:>2}  {bin:<6} {grams:>6} g")?;
     }
-    let total = ledger.total();
-    println!(rt; "  in all         {total:>6} g")
+    println!(rt; "  in all         {:>6} g", ledger.total())
 }
 
-fn reason(refused: Refused) -> &'static str {
-    match refused {
-        Refused::NotOfForm => "the body is neither a move nor a count",
-        Refused::NoSuchBin => "there is no such bin",
-        Refused::HoldsLess => "the bin holds less",
-        Refused::WouldPass => "the other bin has no room",
+impl<Q: Channel, R: Channel> Shift<'_, Ledger, Q, R> {
+    /// Orders a withdrawal whose reply is kept.
+    pub fn withdraw(&mut self, terminal: usize, what: Withdrawal, why: &str) -> io::Result<()> {
+        self.order(terminal, true, &what.body(), why)
     }
-}
 
-/// What the ledger answered, if it did.
-pub fn print_answer(rt: &HostRuntime, answered: Option<Body>) -> io::Result<()> {
-    let Some(body) = answered else {
-        return Ok(());
-    };
-    match Answer::read(body.as_slice()) {
-        Some(Answer::Moved { from, to }) => {
-            println!(rt; "    moved: {from} g are left, the mixer holds {to} g")
+    /// Asks at terminal 0 how much salt there is.
+    pub fn count_salt(&mut self, keep: bool, why: &str) -> io::Result<()> {
+        self.order(0, keep, &count_body(u8::from(Bin::Salt)), why)
+    }
+
+    /// Tells what the ledger answered, if it did.
+    pub fn tell_answer(&self, answered: Option<Body>) -> io::Result<()> {
+        let Some(body) = answered else {
+            return Ok(());
+        };
+        match read_reply(body.as_slice()) {
+            Some(Ok(Answer::Moved { from, to })) => {
+                println!(self.rt; "    moved: {from} g are left, the mixer holds {to} g")
+            }
+            Some(Ok(Answer::Counted { grams })) => println!(self.rt; "    counted: {grams} g"),
+            Some(Err(refused)) => {
+                println!(self.rt; "    not moved, status {}: {refused}", u8::from(refused))
+            }
+            None => println!(self.rt; "    not an answer of the ledger's"),
         }
-        Some(Answer::Counted { grams }) => println!(rt; "    counted: {grams} g"),
-        Some(Answer::Refused(refused)) => {
-            let status = refused.number();
-            let why = reason(refused);
-            println!(rt; "    not moved, status {status}: {why}")
-        }
-        None => println!(rt; "    not an answer of the ledger's"),
     }
-}
 
-/// A message in hex.
-pub fn print_message(rt: &HostRuntime, title: &str, bytes: &[u8]) -> io::Result<()> {
-    let len = bytes.len();
-    let hex = Hex(bytes);
-    println!(rt; "    {title}, {len} bytes:{hex}")
+    pub fn take_answer(&mut self, why: &str) -> io::Result<()> {
+        let answered = self.take(why)?;
+        self.tell_answer(answered)
+    }
 }

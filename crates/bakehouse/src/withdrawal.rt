@@ -1,5 +1,5 @@
 ghost use Rattle.std.specs.Prelude.{◌≡◌, ℕ, ◌<◌, T};
-ghost use Rattle.ledger.specs.Books.{book, held};
+ghost use Rattle.ledger.specs.Books.{held};
 ghost use Rattle.ledger.specs.Ledger.{ledger_after};
 ghost use Rattle.ledger.specs.Forms.{move_bytes};
 ghost use Rattle.bakehouse.specs.Stock.{bin_number, opening_bins, withdrawal_ask, withdrawn};
@@ -20,23 +20,24 @@ impl Withdrawal {
     pub fn body(self) -> [u8; 7]
         ensures { result ≡ move_bytes (bin_number self.bin) 31 self.grams }
     {
-        move_body(self.bin.number(), Bin::Mixer.number(), self.grams)
+        move_body(u8::from(self.bin), u8::from(Bin::Mixer), self.grams)
     }
 
-    /// Makes it in a book.
-    fn make(self, ledger: &mut Ledger)
-        ensures { book ledger.new ≡ ledger_after (book ledger.old) (withdrawal_ask self) }
+    /// The book once it was made.
+    fn make(self, mut ledger: Ledger) -> Ledger
+        ensures { result ≡ ledger_after ledger (withdrawal_ask self) }
     {
         let mut reply = [0; 256];
         ledger.run(&self.body(), &mut reply);
+        ledger
     }
 }
 
 /// The book as the day begins.
 pub fn opening_book() -> Ledger
-    ensures { book result ≡ opening_bins }
+    ensures { result ≡ opening_bins }
 {
-    let mut bins = [0u32; 32];
+    let mut bins = [0; 32];
     bins[0] = 25_000;
     bins[1] = 8_000;
     bins[3] = 1_200;
@@ -45,24 +46,15 @@ pub fn opening_book() -> Ledger
 
 /// The book once these withdrawals were made, each once.
 pub fn book_after(withdrawals: &[Withdrawal]) -> Ledger
-    ensures { book result ≡ withdrawn opening_bins withdrawals.now }
+    ensures { result ≡ withdrawn opening_bins withdrawals.now }
 {
-    let mut ledger = opening_book();
-    for withdrawal in withdrawals {
-        withdrawal.make(&mut ledger);
-    }
-    ledger
+    withdrawals.iter().fold(opening_book(), |ledger, withdrawal| withdrawal.make(ledger))
 }
 
 /// Whether two books are the same.
 pub fn same_book(one: &Ledger, other: &Ledger) -> bool
-    ensures same { T result → (k : ℕ) → k < 32 → held (book one.now) k ≡ held (book other.now) k }
-    ensures finds { book one.now ≡ book other.now → T result }
+    ensures same { T result → (k : ℕ) → k < 32 → held one.now k ≡ held other.now k }
+    ensures finds { one.now ≡ other.now → T result }
 {
-    for bin in 0..32u8 {
-        if one.count(bin) != other.count(bin) {
-            return false;
-        }
-    }
-    true
+    one == other
 }

@@ -1,31 +1,21 @@
 -- What each channel's record stands for.
-use Rattle.std.specs.Prelude.{List, map, take, drop}
+use Rattle.std.specs.Prelude.{List}
 use Rattle.common.specs.Bytes.{Bytes}
 use Rattle.channel.specs.Channels.{ShelfState, LossState, pipe_model, loss_model, double_model}
 use Rattle.channel.specs.Laws.{pipe_laws, loss_laws, double_laws}
-use Rattle.channel.specs.declared.packet.Packet.{Packet}
-use Rattle.channel.specs.declared.rack.Rack.{Rack}
 use Rattle.channel.specs.declared.pipe.Pipe.{Pipe}
 use Rattle.channel.specs.declared.shelf.Shelf.{Shelf}
 use Rattle.channel.specs.declared.loss.Loss.{Loss}
 use Rattle.channel.specs.declared.double.Double.{Double}
 use Rattle.channel.specs.declared.Channel as channel
 
--- the message in a packet
-abbrev pub packet_message : Packet → Bytes
-packet_message p = take p.len p.bytes
-
--- the messages in a rack, the oldest first
-abbrev pub rack_messages : Rack → List Bytes
-rack_messages r = map packet_message (take r.count r.packets)
-
 -- what waits in a pipe
 abbrev pub pipe_state : Pipe → List Bytes
-pipe_state p = rack_messages p.rack
+pipe_state p = p.rack.items
 
 -- what waits on a shelf, and the choices that are not used up
 abbrev pub shelf_state : Shelf → ShelfState
-shelf_state s = record { messages = rack_messages s.rack; choices = drop s.used s.choices.now }
+shelf_state s = record { messages = s.rack.items; choices = s.choices.now }
 
 -- a loss by its counts and the state of the channel below
 abbrev pub loss_state : {C : Type 0} (c : channel.Ghosts C) → Loss C c → LossState c.model.State

@@ -7,7 +7,6 @@ ghost use Rattle.channel.specs.Channel.{ChannelModel, ChannelLaws, take_step, ta
 pub mod double;
 pub mod laws;
 pub mod loss;
-mod packet;
 pub mod pile;
 pub mod pipe;
 mod rack;
@@ -28,6 +27,7 @@ pub trait Channel {
         ensures after { state self.new ≡ model.puts (state self.old) message.now };
 
     /// Takes a message into the front of the buffer and answers its length. A buffer under 304 bytes gets none.
+    // The buffer is the caller's and a length is answered: with no heap, a channel has no memory to hand a message out in.
     fn take(&mut self, buffer: &mut [u8]) -> Option<usize>
         ensures after { state self.new ≡ take_step model (state self.old) (length buffer.old) }
         ensures gave { taken result buffer.new ≡ take_gives model (state self.old) (length buffer.old) }

@@ -5,8 +5,7 @@ ghost use Rattle.channel.specs.Held.{pipe_state};
 ghost use Rattle.channel.specs.Laws.{pipe_laws};
 
 use crate::Channel;
-use crate::packet::LONGEST;
-use crate::rack::Rack;
+use crate::rack::{Rack, lay, put};
 
 #[derive(Drop)]
 pub struct Pipe {
@@ -30,19 +29,16 @@ impl Channel for Pipe {
     ghost lawful = { pipe_laws };
 
     fn put(&mut self, message: &[u8]) {
-        self.rack.push(message);
+        put(&mut self.rack, message);
     }
 
     fn take(&mut self, buffer: &mut [u8]) -> Option<usize> {
-        if buffer.len() < LONGEST || self.rack.len() == 0 {
-            return None;
-        }
-        let len = self.rack.copy_to(0, buffer);
+        let len = lay(self.rack.first(), buffer)?;
         self.rack.remove(0);
         Some(len)
     }
 
     fn is_empty(&self) -> bool {
-        self.rack.len() == 0
+        self.rack.is_empty()
     }
 }

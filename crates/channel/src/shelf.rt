@@ -5,8 +5,7 @@ ghost use Rattle.channel.specs.Held.{shelf_state};
 ghost use Rattle.channel.specs.Laws.{shelf_laws};
 
 use crate::Channel;
-use crate::packet::LONGEST;
-use crate::rack::Rack;
+use crate::rack::{Rack, lay, put};
 
 /// From this choice on, the message that is given stays.
 const STAYS: u8 = 128;
@@ -14,8 +13,8 @@ const STAYS: u8 = 128;
 #[derive(Drop)]
 pub struct Shelf<'a> {
     rack: Rack,
+    // those that are left
     choices: &'a [u8],
-    used: usize,
 }
 
 impl<'a> Shelf<'a> {
@@ -23,27 +22,19 @@ impl<'a> Shelf<'a> {
     pub fn over(choices: &'a [u8]) -> Shelf<'a>
         ensures { shelf_state result ≡ record { messages = []; choices = choices.now } }
     {
-        Shelf {
-            rack: Rack::new(),
-            choices,
-            used: 0,
-        }
+        let rack = Rack::new();
+        Shelf { rack, choices }
     }
 }
 
-impl Shelf<'_> {
-    /// The next choice, 0 when they are used up.
-    fn next(&mut self) -> u8
-        ensures value { result ≡ slice_index (drop self.old.used self.old.choices.now) 0 }
-        ensures rack { self.new.rack ≡ self.old.rack }
-        ensures rest { drop self.new.used self.new.choices.now ≡ drop 1 (drop self.old.used self.old.choices.now) }
-    {
-        if self.used >= self.choices.len() {
-            return 0;
-        }
-        let choice = self.choices[self.used];
-        self.used += 1;
-        choice
+/// The next choice, 0 when they are used up, and those after it.
+fn next(choices: &[u8]) -> (u8, &[u8])
+    ensures choice { result.0 ≡ slice_index choices.now 0 }
+    ensures rest { result.1.now ≡ drop 1 choices.now }
+{
+    match choices {
+        [choice, rest @ ..] => (*choice, rest),
+        [] => (0, choices),
     }
 }
 
@@ -55,17 +46,14 @@ impl<'a> Channel for Shelf<'a> {
     ghost lawful = { shelf_laws };
 
     fn put(&mut self, message: &[u8]) {
-        self.rack.push(message);
+        put(&mut self.rack, message);
     }
 
     fn take(&mut self, buffer: &mut [u8]) -> Option<usize> {
-        let waiting = self.rack.len();
-        if buffer.len() < LONGEST || waiting == 0 {
-            return None;
-        }
-        let choice = self.next();
-        let i = choice as usize % waiting;
-        let len = self.rack.copy_to(i, buffer);
+        let (choice, rest) = next(self.choices);
+        let i = usize::from(choice).checked_rem(self.rack.len())?;
+        let len = lay(self.rack.get(i), buffer)?;
+        self.choices = rest;
         if choice < STAYS {
             self.rack.remove(i);
         }
@@ -73,6 +61,6 @@ impl<'a> Channel for Shelf<'a> {
     }
 
     fn is_empty(&self) -> bool {
-        self.rack.len() == 0
+        self.rack.is_empty()
     }
 }

@@ -16,14 +16,15 @@ fn told<C: Channel>(channel: &mut C) -> u8 {
 }
 
 fn plays<C: Channel>(channel: &mut C, script: &[u8], gave: &[u8]) -> bool {
-    for (deed, expected) in script.iter().zip(gave.iter()) {
-        if *deed != b'.' {
+    let plays = script.iter().zip(gave).all(|(deed, expected)| {
+        if *deed == b'.' {
+            told(channel) == *expected
+        } else {
             channel.put(&[*deed]);
-        } else if told(channel) != *expected {
-            return false;
+            true
         }
-    }
-    channel.is_empty()
+    });
+    plays && channel.is_empty()
 }
 
 #[test]

@@ -1,3 +1,4 @@
 pub mod Bytes
 pub mod Members
 pub mod Search
+pub mod Padding

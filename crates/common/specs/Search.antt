@@ -1,5 +1,6 @@
 -- Searching a list: what is found there, where, and what is one of it.
-use Rattle.std.specs.Prelude.{◌≡◌, ℕ, ◌+◌, Bool, cond, ◌⊎◌, List, [], ◌∷◌, Some, None, Option}
+use Rattle.std.specs.Prelude.{◌≡◌, ℕ, Bool, ◌⊎◌, List, [], ◌∷◌, Some, None, Option}
+use Rattle.std.specs.List.{position_from}
 
 -- x is one of the list
 abbrev pub In : {A : Type 0} → A → List A → Type 0
@@ -13,5 +14,4 @@ when_found none go (Some a) = go a
 
 -- the lowest index, counted from i, at which a test holds
 abbrev pub lowest_at : {X : Type 0} → (X → Bool) → List X → ℕ → Option ℕ
-lowest_at test [] i = None
-lowest_at test (x ∷ xs) i = cond (test x) (Some i) (lowest_at test xs (i + 1))
+lowest_at test xs i = position_from test i xs

@@ -1,77 +1,68 @@
-ghost use Rattle.std.specs.Prelude.{◌≡◌, set, if◌then◌else◌, nat_lt, slice_set};
+ghost use Rattle.std.specs.Prelude.{◌≡◌, if◌then◌else◌, nat_lt, slice_set};
 
 use crate::dice::Dice;
 use crate::jobs::{Stake, Trade};
-use crate::tally::Tally;
+use crate::tally::{Tally, count};
 use channel::Channel;
 use house::{Closing, Heard, House, Taken, Told};
-use service::Service;
+use std::mem;
 use wire::Refusal;
 
 /// The stakes of a terminal's open calls, by slot.
 #[derive(Clone, Copy)]
-pub struct Desk {
-    stakes: [Stake; 16],
+struct Desk {
+    stakes: [Option<Stake>; 16],
 }
 
 impl Desk {
-    /// Puts a stake at a slot, and gives what was there.
-    fn swap(&mut self, slot: usize, stake: Stake) -> Stake
+    const EMPTY: Desk = Desk { stakes: [None; 16] };
+
+    /// Puts a stake at a slot or clears it, and gives what was there.
+    fn swap(&mut self, slot: usize, stake: Option<Stake>) -> Option<Stake>
         ensures { self.new.stakes ≡ (if nat_lt slot 16 then slice_set self.old.stakes slot stake else self.old.stakes) }
     {
-        if slot >= 16 {
-            return Stake::NONE;
+        // By index: of what `get_mut` lends, a contract knows no element afterwards.
+        if slot < 16 {
+            mem::replace(&mut self.stakes[slot], stake)
+        } else {
+            None
         }
-        let old = self.stakes[slot];
-        self.stakes[slot] = stake;
-        old
     }
 }
 
 /// A house under random calls, with what is at stake in its open calls.
 #[derive(Drop)]
-pub struct Floor<S: Service, Q: Channel, R: Channel> {
+pub struct Floor<S: Trade, Q: Channel, R: Channel> {
     pub house: House<S, Q, R>,
     pub tally: Tally,
     scratch: [u8; 304],
     desks: [Desk; 8],
     dice: Dice,
-    trade: Trade,
 }
 
-impl<S: Service, Q: Channel, R: Channel> Floor<S, Q, R> {
-    pub fn new(house: House<S, Q, R>, trade: Trade, seed: u64) -> Floor<S, Q, R> {
+impl<S: Trade, Q: Channel, R: Channel> Floor<S, Q, R> {
+    pub fn new(house: House<S, Q, R>, seed: u64) -> Floor<S, Q, R> {
         Floor {
             house,
             tally: Tally::new(),
             scratch: [0; 304],
-            desks: [Desk {
-                stakes: [Stake::NONE; 16],
-            }; 8],
+            desks: [Desk::EMPTY; 8],
             dice: Dice::seeded(seed),
-            trade,
         }
     }
 
-    fn swap(&mut self, terminal: usize, slot: usize, stake: Stake) -> Stake {
-        if terminal >= 8 {
-            return Stake::NONE;
-        }
-        self.desks[terminal].swap(slot, stake)
+    fn swap(&mut self, terminal: usize, slot: usize, stake: Option<Stake>) -> Option<Stake> {
+        self.desks.get_mut(terminal)?.swap(slot, stake)
     }
 
     /// Of the calls still open at a terminal nothing is known.
     fn doubt_all(&mut self, terminal: usize) {
-        for slot in 0..16 {
-            let stake = self.swap(terminal, slot, Stake::NONE);
-            self.tally.doubt(stake);
-        }
-    }
-
-    fn count(&mut self, res: Result<(), Refusal>) {
-        self.tally.calls = self.tally.calls.saturating_add(1);
-        if let Err(refusal) = res {
-            self.tally.refuse(refusal);
+        let Some(desk) = self.desks.get_mut(terminal) else {
+            return;
+        };
+        let left = mem::replace(desk, Desk::EMPTY);
+        for stake in left.stakes.into_iter().flatten() {
+            self.tally.in_doubt.add(stake);
         }
     }
 
@@ -83,28 +74,29 @@ impl<S: Service, Q: Channel, R: Channel> Floor<S, Q, R> {
     }
 
     fn order(&mut self, terminal: usize) -> Result<(), Refusal> {
-        let job = self.trade.job(&mut self.dice);
-        let body = &job.bytes[0..job.len];
+        let job = S::job(&mut self.dice);
+        let body = job.body.as_slice();
         let slot = self
             .house
             .order(terminal, job.keep, body, &mut self.scratch)?;
-        self.tally.ordered = self.tally.ordered.saturating_add(1);
-        let old = self.swap(terminal, slot, job.stake);
-        self.tally.doubt(old);
+        count(&mut self.tally.ordered);
+        if let Some(old) = self.swap(terminal, slot, Some(job.stake)) {
+            self.tally.in_doubt.add(old);
+        }
         Ok(())
     }
 
     fn part(&mut self, terminal: usize, slot: usize) -> Result<(), Refusal> {
         self.house.part(terminal, slot, &mut self.scratch)?;
-        self.tally.ordered = self.tally.ordered.saturating_add(1);
+        count(&mut self.tally.ordered);
         Ok(())
     }
 
     fn hear(&mut self, told: Told) -> Result<(), Refusal> {
         match self.house.hear(told, &mut self.scratch)? {
-            Heard::Ran => self.tally.ran = self.tally.ran.saturating_add(1),
+            Heard::Ran => count(&mut self.tally.ran),
             Heard::Aside => {}
-            Heard::Again => self.tally.again = self.tally.again.saturating_add(1),
+            Heard::Again => count(&mut self.tally.again),
             Heard::Status(status) => self.tally.hear_status(status),
         }
         Ok(())
@@ -115,21 +107,23 @@ impl<S: Service, Q: Channel, R: Channel> Floor<S, Q, R> {
         if let Closing::StillOpen(_) = taken.closing {
             return;
         }
-        let stake = self.swap(taken.terminal, taken.slot as usize, Stake::NONE);
+        // A bare call has nothing at stake.
+        let stake = self.swap(taken.terminal, taken.slot as usize, None);
+        let stake = stake.unwrap_or_default();
         match taken.closing {
             Closing::Answered(body) => {
-                self.tally.answered = self.tally.answered.saturating_add(1);
+                count(&mut self.tally.answered);
                 if let [0, ..] = body.as_slice() {
-                    self.tally.settle(stake);
+                    self.tally.known.add(stake);
                 }
             }
             Closing::Done => {
-                self.tally.done = self.tally.done.saturating_add(1);
-                self.tally.settle(stake);
+                count(&mut self.tally.done);
+                self.tally.known.add(stake);
             }
             Closing::Unknown => {
-                self.tally.unknown = self.tally.unknown.saturating_add(1);
-                self.tally.doubt(stake);
+                count(&mut self.tally.unknown);
+                self.tally.in_doubt.add(stake);
             }
             Closing::StillOpen(_) => {}
         }
@@ -150,6 +144,7 @@ impl<S: Service, Q: Channel, R: Channel> Floor<S, Q, R> {
     fn act(&mut self, closes: bool) {
         let terminal = usize::from(self.dice.byte() % 8);
         let slot = usize::from(self.dice.byte() % 16);
+        // As ranges of the throw, so that one match shows how often each call is made.
         let result = match self.dice.byte() {
             0..=9 => self.open(),
             10..=79 => self.order(terminal),
@@ -163,7 +158,10 @@ impl<S: Service, Q: Channel, R: Channel> Floor<S, Q, R> {
             _ if closes => self.house.close(terminal),
             _ => self.take(),
         };
-        self.count(result);
+        count(&mut self.tally.calls);
+        if let Err(refusal) = result {
+            self.tally.refuse(refusal);
+        }
     }
 
     /// Makes that many random calls.
@@ -174,6 +172,7 @@ impl<S: Service, Q: Channel, R: Channel> Floor<S, Q, R> {
     }
 
     /// Sends every open call again, resumes what was set aside, and takes every reply, so often that losses are made up for.
+    // The numbers name the terminals and slots that are called; nothing is indexed by them.
     pub fn drain(&mut self) {
         for _ in 0..4 {
             for terminal in 0..8 {

@@ -1,8 +1,27 @@
 ghost use Rattle.std.specs.Prelude.{◌≡◌, ◌&&◌, nat_le};
-ghost use Rattle.driver.specs.Sums.{sum};
+ghost use Rattle.driver.specs.Sums.{sum, counted};
 
 use crate::jobs::Stake;
+use std::fmt;
 use wire::{Refusal, Status};
+
+/// What calls added and took away, all together.
+#[derive(Clone, Copy, Default)]
+pub struct Sums {
+    pub added: u64,
+    pub taken: u64,
+}
+
+impl Sums {
+    /// Adds what a call has at stake.
+    pub fn add(&mut self, stake: Stake)
+        ensures added { self.new.added ≡ sum self.old.added stake.adds }
+        ensures taken { self.new.taken ≡ sum self.old.taken stake.takes }
+    {
+        self.added = self.added.saturating_add(u64::from(stake.adds));
+        self.taken = self.taken.saturating_add(u64::from(stake.takes));
+    }
+}
 
 /// What came of the calls.
 #[derive(Clone, Copy)]
@@ -16,29 +35,24 @@ pub struct Tally {
     pub done: u32,
     pub unknown: u32,
     /// Refusals by their number; an unreadable message counts at 0.
-    pub refusals: [u32; 15],
-    /// Statuses heard, in the order of `STATUSES`.
-    pub statuses: [u32; 7],
+    refusals: [u32; 15],
+    /// How often each status besides 0 was heard.
+    statuses: [(Status, u32); 7],
     /// What the calls known to be done added and took away.
-    pub added: u64,
-    pub taken: u64,
+    pub known: Sums,
     /// What the calls of which nothing is known may have added and taken away besides.
-    pub may_add: u64,
-    pub may_take: u64,
+    pub in_doubt: Sums,
 }
 
-/// The statuses that a server sends besides 0.
-pub const STATUSES: [Status; 7] = [
-    Status::Delay,
-    Status::BadSession,
-    Status::BadSlot,
-    Status::SeqMisordered,
-    Status::RetryUncachedRep,
-    Status::SeqFalseRetry,
-    Status::BadHighSlot,
-];
+/// Counts one more.
+pub fn count(counter: &mut u32)
+    ensures { counter.new ≡ counted counter.old }
+{
+    *counter = counter.saturating_add(1);
+}
 
 impl Tally {
+    // No derived `Default`: each row of `statuses` begins with a status of its own.
     pub fn new() -> Tally {
         Tally {
             calls: 0,
@@ -49,60 +63,76 @@ impl Tally {
             done: 0,
             unknown: 0,
             refusals: [0; 15],
-            statuses: [0; 7],
-            added: 0,
-            taken: 0,
-            may_add: 0,
-            may_take: 0,
+            statuses: [
+                (Status::Delay, 0),
+                (Status::BadSession, 0),
+                (Status::BadSlot, 0),
+                (Status::SeqMisordered, 0),
+                (Status::RetryUncachedRep, 0),
+                (Status::SeqFalseRetry, 0),
+                (Status::BadHighSlot, 0),
+            ],
+            known: Sums::default(),
+            in_doubt: Sums::default(),
         }
     }
 
     pub fn refuse(&mut self, refusal: Refusal) {
+        // By index: a refusal's number is its row, and 10036 alone has none.
         let number = refusal.number() as usize;
-        let i = if number < 15 { number } else { 0 };
-        self.refusals[i] = self.refusals[i].saturating_add(1);
+        let row = if number < 15 { number } else { 0 };
+        count(&mut self.refusals[row]);
     }
 
     pub fn hear_status(&mut self, status: Status) {
-        let i = match status {
-            Status::Delay => 0,
-            Status::BadSession => 1,
-            Status::BadSlot => 2,
-            Status::SeqMisordered => 3,
-            Status::RetryUncachedRep => 4,
-            Status::SeqFalseRetry => 5,
-            Status::BadHighSlot | Status::Ok => 6,
-        };
-        self.statuses[i] = self.statuses[i].saturating_add(1);
-    }
-
-    /// Counts what a call did that is known to be done.
-    pub fn settle(&mut self, stake: Stake)
-        ensures added { self.new.added ≡ sum self.old.added stake.adds }
-        ensures taken { self.new.taken ≡ sum self.old.taken stake.takes }
-        ensures in_doubt { (self.new.may_add ≡ self.old.may_add) × (self.new.may_take ≡ self.old.may_take) }
-    {
-        self.added = self.added.saturating_add(u64::from(stake.adds));
-        self.taken = self.taken.saturating_add(u64::from(stake.takes));
-    }
-
-    /// Counts what a call may have done of which nothing is known.
-    pub fn doubt(&mut self, stake: Stake)
-        ensures may_add { self.new.may_add ≡ sum self.old.may_add stake.adds }
-        ensures may_take { self.new.may_take ≡ sum self.old.may_take stake.takes }
-        ensures settled { (self.new.added ≡ self.old.added) × (self.new.taken ≡ self.old.taken) }
-    {
-        self.may_add = self.may_add.saturating_add(u64::from(stake.adds));
-        self.may_take = self.may_take.saturating_add(u64::from(stake.takes));
+        // No `find`: what it lends of `iter_mut` is not proved to come back whole.
+        for (known, counter) in self.statuses.iter_mut() {
+            if *known == status {
+                count(counter);
+            }
+        }
     }
 
     /// Whether what is there now, beyond what was there at first, is what the calls known to be done left,
     /// give or take those of which nothing is known.
     pub fn agrees(&self, gained: u64) -> bool
-        ensures { result ≡ nat_le self.now.added (sum (sum gained self.now.taken) self.now.may_take) && nat_le (sum gained self.now.taken) (sum self.now.added self.now.may_add) }
+        ensures { result ≡ nat_le self.now.known.added (sum (sum gained self.now.known.taken) self.now.in_doubt.taken) && nat_le (sum gained self.now.known.taken) (sum self.now.known.added self.now.in_doubt.added) }
     {
-        let with_taken = gained.saturating_add(self.taken);
-        self.added <= with_taken.saturating_add(self.may_take)
-            && with_taken <= self.added.saturating_add(self.may_add)
+        let Tally {
+            known,
+            in_doubt,
+            ..
+        } = self;
+        let with_taken = gained.saturating_add(known.taken);
+        known.added <= with_taken.saturating_add(in_doubt.taken)
+            && with_taken <= known.added.saturating_add(in_doubt.added)
+    }
+}
+
+impl fmt::Display for Tally {
+    fn fmt<W: fmt::Write>(&self, f: &mut fmt::Formatter<W>) -> fmt::Result {
+        writeln!(
+            f,
+            "  ordered {}, heard new {}, heard again {}",
+            self.ordered, self.ran, self.again
+        )?;
+        writeln!(
+            f,
+            "  answered {}, done {}, unknown {}",
+            self.answered, self.done, self.unknown
+        )?;
+        write!(f, "  refused, by number:")?;
+        for (number, count) in self.refusals.iter().enumerate() {
+            if *count > 0 {
+                write!(f, " {number}: {count}")?;
+            }
+        }
+        write!(f, "\n  statuses heard:")?;
+        for (status, count) in self.statuses {
+            if count > 0 {
+                write!(f, " {}: {count}", u32::from(status))?;
+            }
+        }
+        Ok(())
     }
 }

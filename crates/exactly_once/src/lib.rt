@@ -8,8 +8,6 @@ use channel::Channel;
 use service::Service;
 
 /// Every house keeps its promise after every history, whatever its service and its two channels do.
-pub fn keeps_promise<S: Service, Q: Channel, R: Channel>() -> u8
+pub fn keeps_promise<S: Service, Q: Channel, R: Channel>()
     ensures { Keeps (parts S.Service Q.Channel R.Channel) }
-{
-    0
-}
+{}

@@ -4,8 +4,6 @@
 ghost use Rattle.examples.specs.Cases.{Cases};
 
 /// The examples hold, all of them at once.
-pub fn worked_examples() -> u8
+pub fn worked_examples()
     ensures { Cases }
-{
-    0
-}
+{}

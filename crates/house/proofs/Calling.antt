@@ -1,27 +1,15 @@
 -- The calls at a session: open, retarget and close.
-use Rattle.std.proofs.Common.{◌≡◌, ℕ, ◌<◌, not, List, map, length, Some, None, Ok, Err, Option, Result, unwrap_or, sym, refl, ap, ◌∙◌, arith}
-use Rattle.std.proofs.lemmas.List.{length-map}
-use Rattle.common.specs.Search.{when_found, lowest_at}
+use Rattle.std.proofs.Common.{◌≡◌, ℕ, Some, None, Ok, Err, Option, Result, sym, refl, ap, ◌∙◌, arith}
+use Rattle.common.specs.Search.{when_found}
 use Rattle.wire.specs.declared.refusals.Refusal.{Refusal as CodeRefusal}
 use Rattle.wire.specs.Wire.{SessionId, Refusal, no_terminal}
-use Rattle.server.specs.Server.{ServerM, Opening, open_session, retarget_session, close_session, after_call}
+use Rattle.server.specs.Server.{ServerM, Opening, open_session, after_call}
 use Rattle.server.specs.Calls.{calling, after_opening}
 use Rattle.terminal.specs.Terminal.{TerminalM, new_terminal}
 use Rattle.exactly_once.specs.History.{ok, opened}
-use Rattle.exactly_once.specs.Steps.{Parts, Model, Step, stands, terminal_at, refuse, plainly, with_server, with_terminal, free_place, open_by, open_step, server_by, retarget_step, close_step}
-use Rattle.house.specs.declared.places.Place.{Place}
+use Rattle.exactly_once.specs.Steps.{Parts, Model, Step, terminal_at, refuse, plainly, with_server, with_terminal, free_place, open_by, open_step, server_by}
 use Rattle.house.specs.Answers.{answer_by}
-use Rattle.house.specs.Houses.{place_model}
 use Rattle.house.specs.Sessions.{id_in}
-use Rattle.house.proofs.Taking.{found_within}
-
--- the place at which open puts a record is one of eight
-pub place_low : (v : ServerM) (ps : List Place) (p : ℕ) → length ps ≡ 8 → p ≡ unwrap_or (lowest_at (λ t. not (stands v t)) (map place_model ps) 0) 7 → p < 8
-place_low v ps p eight is = go (lowest_at (λ t. not (stands v t)) (map place_model ps) 0) refl is
-  where
-    go : (o : Option ℕ) → lowest_at (λ t. not (stands v t)) (map place_model ps) 0 ≡ o → p ≡ unwrap_or o 7 → p < 8
-    go None e is = omega (arith, is)
-    go (Some q) e is = omega (arith, is, eight, length-map ps place_model, found_within (λ t. not (stands v t)) (map place_model ps) q None (sym e))
 
 module _ (P : Parts) (m : Model P) where
   -- open, by what the server answered
@@ -40,14 +28,6 @@ module _ (P : Parts) (m : Model P) where
   -- a call that wants the session id of the terminal at p
   abbrev pub at_place : ℕ → (SessionId → Step P) → Step P
   at_place p by = when_found (refuse P m no_terminal) (λ (t : TerminalM). by t.id) (terminal_at P m p)
-
-  pub retarget_is : (p target : ℕ) → retarget_step P m p target ≡ at_place p (λ id. server_by P m (retarget_session m.server id target))
-  unfolding retarget_step
-  retarget_is p target = refl
-
-  pub close_is : (p : ℕ) → close_step P m p ≡ at_place p (λ id. server_by P m (close_session m.server id))
-  unfolding close_step
-  close_is p = refl
 
   module _ (by : SessionId → Step P) where
     none_at : (o : Option TerminalM) (e : Refusal) → Err e ≡ id_in o → when_found (refuse P m no_terminal) (λ (t : TerminalM). by t.id) o ≡ refuse P m e

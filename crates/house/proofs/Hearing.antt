@@ -3,15 +3,16 @@ use Rattle.std.proofs.Common.{◌≡◌, ℕ, ◌<◌, ◌≤◌, min, cond, ltb
 use Rattle.std.proofs.lemmas.Bool.{cond-true, cond-false, lt-ltb, le-ltb, lt-leb, and_left, cases_lt}
 use Rattle.common.specs.Bytes.{Bytes}
 use Rattle.common.specs.Search.{when_found}
-use Rattle.channel.specs.Channel.{take_gives}
+use Rattle.channel.specs.Channel as channel
 use Rattle.service.specs.Service.{ServiceModel}
-use Rattle.wire.specs.Wire.{SessionId, Refusal, short_scratch, nothing_waits, not_standing, no_work}
+use Rattle.wire.specs.Wire.{SessionId, Refusal, short_scratch, not_standing, no_work}
 use Rattle.server.specs.Server.{ServerM, SessionM, Served, fault, says, old, work, Run, slot_at, is_working, works_at, run_slot, session_of, run_work, set_work_aside, resume_work, serve}
 use Rattle.exactly_once.specs.History.{Told, run, aside}
-use Rattle.exactly_once.specs.Steps.{Parts, Model, terminal_at, refuse, rest_requests, hear_run, hear_aside, hear_served, hear_request, hear_step, resume_by, resume_step}
+use Rattle.exactly_once.specs.Steps.{Parts, Model, Step, terminal_at, refuse, hear_run, hear_aside, hear_served, hear_request, hear_step, resume_by, resume_step}
+use Rattle.house.specs.Took.{took}
 use Rattle.house.specs.Sessions.{id_in}
 use Rattle.house.proofs.Calling.{at_place, place_none, place_some}
-use Rattle.house.proofs.Rooms.{given}
+use Rattle.house.proofs.Took.{by_took, takes}
 
 -- no session has work past its last slot
 module _ (S : ServiceModel) (k : S.Content) (v : ServerM) (id : SessionId) where
@@ -30,21 +31,17 @@ module _ (S : ServiceModel) (k : S.Content) (v : ServerM) (id : SessionId) where
       above h = high (session_of v id) (min i 16) (omega arith) ∙ sym (high (session_of v id) i (omega arith))
 
 module _ (P : Parts) (m : Model P) where
-  -- the step of a hear
-  module _ (told : Told) (room : ℕ) where
-    pub hear_short : room < 304 → hear_step P m told room ≡ refuse P m short_scratch
-    unfolding hear_step
-    hear_short h = cond-true (ltb room 304) (refuse P m short_scratch) (when_found (refuse P (rest_requests P m) nothing_waits) (hear_request P (rest_requests P m) told) (P.requests.gives m.requests)) (lt-ltb room 304 h)
+  -- the house with other requests
+  abbrev pub with_requests : P.requests.State → Model P
+  with_requests qs = record { server = m.server; terminals = m.terminals; content = m.content; requests = qs; replies = m.replies }
 
-    hear_is : 304 ≤ room → hear_step P m told room ≡ when_found (refuse P (rest_requests P m) nothing_waits) (hear_request P (rest_requests P m) told) (P.requests.gives m.requests)
-    unfolding hear_step
-    hear_is h = cond-false (ltb room 304) (refuse P m short_scratch) (when_found (refuse P (rest_requests P m) nothing_waits) (hear_request P (rest_requests P m) told) (P.requests.gives m.requests)) (le-ltb room 304 h)
+  -- the step of a hear, by what was taken
+  abbrev pub heard : Told → P.requests.State → Result Bytes Refusal → Step P
+  heard told = by_took P.requests (λ q. refuse P (with_requests q)) (λ q. hear_request P (with_requests q) told)
 
-    pub hear_none : 304 ≤ room → None ≡ take_gives P.requests m.requests room → hear_step P m told room ≡ refuse P (rest_requests P m) nothing_waits
-    hear_none h gave = hear_is h ∙ ap (when_found (refuse P (rest_requests P m) nothing_waits) (hear_request P (rest_requests P m) told)) (given P.requests m.requests room h None gave)
-
-    pub hear_some : (b : Bytes) → 304 ≤ room → Some b ≡ take_gives P.requests m.requests room → hear_step P m told room ≡ hear_request P (rest_requests P m) told b
-    hear_some b h gave = hear_is h ∙ ap (when_found (refuse P (rest_requests P m) nothing_waits) (hear_request P (rest_requests P m) told)) (given P.requests m.requests room h (Some b) gave)
+  pub hear_is : (told : Told) (room : ℕ) → hear_step P m told room ≡ heard told (channel.take_step P.requests m.requests room) (took P.requests m.requests room)
+  unfolding hear_step
+  hear_is told room = takes P.requests (λ q. refuse P (with_requests q)) (λ q. hear_request P (with_requests q) told) m.requests room
 
   -- whatever serve gives, the request was taken
   module _ (b : Bytes) where

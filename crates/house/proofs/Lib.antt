@@ -1,7 +1,6 @@
 pub mod Calling
-pub mod Counts
 pub mod Hearing
 pub mod Meets
-pub mod Rooms
 pub mod Sending
 pub mod Taking
+pub mod Took

@@ -4,13 +4,21 @@ use Rattle.std.proofs.lemmas.List.{set-get_or}
 use Rattle.std.proofs.lemmas.Bool.{cond-true, cond-false, lt-ltb, le-ltb}
 use Rattle.common.specs.Bytes.{Bytes}
 use Rattle.common.specs.Search.{when_found}
+use Rattle.service.specs.declared.Service as service
+use Rattle.channel.specs.declared.Channel as channel
+use Rattle.channel.specs.Channel.{laid}
+use Rattle.wire.specs.declared.refusals.Refusal.{Refusal as CodeRefusal}
 use Rattle.wire.specs.Wire.{Refusal, short_scratch, no_terminal, no_open_call}
 use Rattle.terminal.specs.declared.sends.Sent.{Sent}
 use Rattle.terminal.specs.Terminal.{TerminalM, OpenCall, Sending, resent, end_at, resend_sends, after_sending}
 use Rattle.terminal.specs.Sends.{in_scratch, told, message_of}
 use Rattle.exactly_once.specs.History.{Answer}
-use Rattle.exactly_once.specs.Steps.{Parts, Model, Step, terminal_at, refuse, send_by, send_step}
-use Rattle.house.specs.Sends.{sends_in, place_after, placed}
+use Rattle.exactly_once.specs.Houses.{parts}
+use Rattle.exactly_once.specs.Steps.{Parts, Model, Step, terminal_at, with_terminal, put_request, refuse, send_by, send_step}
+use Rattle.house.specs.declared.state.House.{House}
+use Rattle.house.specs.Answers.{answer_by}
+use Rattle.house.specs.Houses.{house_state}
+use Rattle.house.specs.Sends.{sends_in, place_after, placed, SentBy}
 
 resend_by : (t : TerminalM) (a b : Bool) (i : ℕ) (o : Option OpenCall) → t ≡ after_sending t (cond a (Err short_scratch) (cond b (Err no_open_call) (when_found (Err no_open_call) (λ c. Ok (resent t i c)) o)))
 resend_by t true b i o = refl
@@ -67,11 +75,19 @@ module _ (P : Parts) (m : Model P) (p room : ℕ) (say : ℕ → Answer) (send :
     pub send_sent : send_step P m p room say send ≡ send_by P m p say (Ok s)
     send_sent = send_is h ∙ ap (send_by P m p say) is
 
-    -- the house with other records and other requests
-    goes : List (Option TerminalM) → P.requests.State → Model P
-    goes ts qs = record { server = m.server; terminals = ts; content = m.content; requests = qs; replies = m.replies }
+-- the house after it: the record at p and the requests
+module _ (P : Parts) (m : Model P) (p : ℕ) (s : Sending) where
+  with_sent : List (Option TerminalM) → P.requests.State → Model P
+  with_sent ts qs = record { server = m.server; terminals = ts; content = m.content; requests = qs; replies = m.replies }
 
-    pub send_goes : (ts : List (Option TerminalM)) (qs : P.requests.State) (b : Bytes) → ts ≡ placed m.terminals p (sends_in room send (terminal_at P m p)) → qs ≡ P.requests.puts m.requests b → b ≡ s.message → record { server = m.server; terminals = ts; content = m.content; requests = qs; replies = m.replies } ≡ (send_step P m p room say send).after
-    unfolding goes
-    send_goes ts qs b records put message =
-        ap₂ goes (records ∙ ap (placed m.terminals p) is) (put ∙ ap (P.requests.puts m.requests) message) ∙ ap (λ (x : Step P). x.after) (sym send_sent)
+  pub goes : (ts : List (Option TerminalM)) (qs : P.requests.State) (b : Bytes) → ts ≡ placed m.terminals p (Ok s) → qs ≡ P.requests.puts m.requests b → b ≡ s.message → record { server = m.server; terminals = ts; content = m.content; requests = qs; replies = m.replies } ≡ put_request P (with_terminal P m p s.after) s.message
+  unfolding with_sent
+  goes ts qs b records put message = ap₂ with_sent records (put ∙ ap (P.requests.puts m.requests) message)
+
+-- a terminal sent, by the step written out
+pub sent_by : {S Q R : Type 0} {s : service.Ghosts S} {q : channel.Ghosts Q} {r : channel.Ghosts R} {before after : House S Q R} {scratch scratch_then : Bytes} {p : ℕ} {say : ℕ → Answer} {send : TerminalM → Result Sending Refusal} {result : Result ℕ CodeRefusal} {step : Step (parts s q r)} → send_step (parts s q r) (house_state s q r before) p (length scratch) say send ≡ step → answer_by say result ≡ step.answer → house_state s q r after ≡ step.after → scratch_then ≡ laid step.put scratch → SentBy s q r before after scratch scratch_then p say send result
+sent_by {s} {q} {r} {scratch} e answer state put = record {
+  answer = answer ∙ ap (λ (x : Step (parts s q r)). x.answer) (sym e);
+  state = state ∙ ap (λ (x : Step (parts s q r)). x.after) (sym e);
+  put = put ∙ ap (λ (x : Step (parts s q r)). laid x.put scratch) (sym e);
+}

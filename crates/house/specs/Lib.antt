@@ -5,3 +5,4 @@ pub mod Sends
 pub mod Sessions
 pub mod Summaries
 pub mod Takes
+pub mod Took

@@ -1,5 +1,7 @@
 -- What order, part and resend have in common.
 use Rattle.std.specs.Prelude.{◌≡◌, ℕ, ◌≤◌, List, length, IfOk, Some, Ok, Err, Option, Result, slice_set}
+use Rattle.std.specs.Borrow.{MutBor}
+use Rattle.std.specs.Fn.{Once}
 use Rattle.common.specs.Bytes.{Bytes}
 use Rattle.common.specs.Search.{when_found}
 use Rattle.service.specs.declared.Service as service
@@ -9,22 +11,16 @@ use Rattle.wire.specs.declared.refusals.Refusal.{Refusal as CodeRefusal}
 use Rattle.wire.specs.Wire.{Refusal, no_terminal}
 use Rattle.wire.specs.Models.{answer_model, itself}
 use Rattle.terminal.specs.declared.sends.Sent.{Sent}
-use Rattle.terminal.specs.Terminal.{TerminalM, Sending, order_sends, part_sends, resend_sends}
+use Rattle.terminal.specs.declared.state.Terminal.{Terminal}
+use Rattle.terminal.specs.Models.{terminal_model}
+use Rattle.terminal.specs.Terminal.{TerminalM, Sending, after_sending}
 use Rattle.terminal.specs.Sends.{in_scratch, told, scratch_after, message_of, front_of}
 use Rattle.exactly_once.specs.History.{Answer}
 use Rattle.exactly_once.specs.Houses.{parts}
 use Rattle.exactly_once.specs.Steps.{send_step}
-use Rattle.house.specs.declared.sends.Dispatch.{Dispatch}
-use Rattle.house.specs.declared.sends.Dispatch.TheVariants.{Order, Part, Resend}
 use Rattle.house.specs.declared.state.House.{House}
 use Rattle.house.specs.Answers.{answer_by}
 use Rattle.house.specs.Houses.{house_state}
-
--- what a terminal sends
-abbrev pub dispatched : Dispatch → TerminalM → Result Sending Refusal
-dispatched (Order keep body) = λ t. order_sends t keep body.now
-dispatched (Part slot) = λ t. part_sends t slot
-dispatched (Resend slot) = λ t. resend_sends t slot
 
 -- what the record at a place sends, if there is one
 abbrev pub sends_in : ℕ → (TerminalM → Result Sending Refusal) → Option TerminalM → Result Sending Refusal
@@ -45,7 +41,17 @@ pub record Wrote (sent : Result Sending Refusal) (before after : Bytes) (r : Res
   pub answer : answer_model itself r ≡ told sent
   pub scratch : after ≡ scratch_after before sent
   pub message : front_of r after ≡ message_of sent
-  pub fits : IfOk r (λ (s : Sent). s.len ≤ 304)
+
+module _ {F : Type 0} (g : Once F (MutBor Terminal × (MutBor Bytes × Unit {0})) (Result Sent CodeRefusal × (MutBor Terminal × (MutBor Bytes × Unit {0})))) (f : F) where
+  -- f may be called at any terminal and any scratch, and its messages fit the room of one
+  pub record CanWrite : Type 0 where
+    pub may : (t : MutBor Terminal) (b : MutBor Bytes) → g.pre f (t, (b, tt))
+    pub fits : (t t' : MutBor Terminal) (b b' : MutBor Bytes) (r : Result Sent CodeRefusal) → g.post f (t, (b, tt)) (r, (t', (b', tt))) → IfOk r (λ (s : Sent). s.len ≤ 304)
+
+  -- f does what `send` says
+  pub record Writes (send : TerminalM → Result Sending Refusal) : Type 0 where
+    pub wrote : (t t' : MutBor Terminal) (b b' : MutBor Bytes) (r : Result Sent CodeRefusal) → g.post f (t, (b, tt)) (r, (t', (b', tt))) → Wrote (in_scratch (length b.now) (send (terminal_model t.now))) b.now b'.now r
+    pub after : (t t' : MutBor Terminal) (b b' : MutBor Bytes) (r : Result Sent CodeRefusal) → g.post f (t, (b, tt)) (r, (t', (b', tt))) → terminal_model t'.now ≡ after_sending (terminal_model t.now) (in_scratch (length b.now) (send (terminal_model t.now)))
 
 module _ {S Q R : Type 0} (s : service.Ghosts S) (q : channel.Ghosts Q) (r : channel.Ghosts R) where
   -- the terminal at a place sent, with the answer said in its own way

@@ -1,7 +1,6 @@
 -- What a house holds, counted.
 use Rattle.std.specs.Prelude.{ℕ, sum_by, count_by, Option}
 use Rattle.common.specs.Search.{when_found}
-use Rattle.slots.specs.Counts.{count_where}
 use Rattle.server.specs.Counts.{working_calls}
 use Rattle.terminal.specs.Terminal.{TerminalM, is_busy}
 use Rattle.exactly_once.specs.Steps.{Parts, Model, stands}
@@ -12,7 +11,7 @@ standing m = count_by (stands m.server) m.terminals
 
 -- calls open at the record of a place
 abbrev pub open_at : Option TerminalM → ℕ
-open_at = when_found 0 (λ (t : TerminalM). count_where is_busy t.slots)
+open_at = when_found 0 (λ (t : TerminalM). count_by is_busy t.slots)
 
 -- calls open at all terminals
 abbrev pub open_calls : {P : Parts} → Model P → ℕ

@@ -1,24 +1,19 @@
 -- A reply handed to the terminal whose session id it bears.
 use Rattle.std.specs.Prelude.{ℕ, ◌≤◌, Bool, false, List, length, Some, None, Ok, Err, Option, Result, slice_index_or, slice_set}
 use Rattle.std.specs.Option.{option_map}
+use Rattle.common.specs.Bytes.{Bytes}
 use Rattle.common.specs.Search.{when_found, lowest_at}
-use Rattle.slots.specs.Bodies.{held}
 use Rattle.wire.specs.Wire.{SessionId, same_id, Reply, Refusal, no_call}
-use Rattle.wire.specs.Models.{status_number}
+use Rattle.terminal.specs.declared.replies.Effect.{Effect as CodeEffect}
 use Rattle.terminal.specs.Terminal.{TerminalM, Effect, answered, done, unknown, still_open, accept_effect, after_accept}
-use Rattle.terminal.specs.Replies.{accept_answer}
+use Rattle.terminal.specs.Replies.{effect_by, accept_answer}
 use Rattle.exactly_once.specs.History.{Answer, taken}
 use Rattle.exactly_once.specs.Steps.{refusal, bears}
-use Rattle.house.specs.declared.takes.Closing.{Closing}
-use Rattle.house.specs.declared.takes.Closing.TheVariants.{Answered, Done, Unknown, StillOpen}
 use Rattle.house.specs.declared.takes.Taken.{Taken}
 
--- each case, an answer as its bytes
-abbrev pub closing_model : Closing → Effect
-closing_model (Answered body) = answered (held body)
-closing_model Done = done
-closing_model Unknown = unknown
-closing_model (StillOpen status) = still_open (status_number status)
+-- what a reply did, a kept body as its bytes
+abbrev pub closing_model : CodeEffect Bytes → Effect
+closing_model = effect_by (λ bytes. bytes)
 
 -- what take answers
 abbrev pub taken_answer : Taken → Answer

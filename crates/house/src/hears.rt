@@ -1,4 +1,4 @@
-ghost use Rattle.std.specs.Prelude.{◌≡◌, ◌≤◌, length, Some};
+ghost use Rattle.std.specs.Prelude.{◌≡◌, ◌≤◌, length};
 ghost use Rattle.common.specs.Bytes.{Bytes};
 ghost use Rattle.channel.specs.Channel.{laid};
 ghost use Rattle.wire.specs.Wire.{reply_message};
@@ -12,16 +12,17 @@ ghost use Rattle.house.specs.Answers.{answer_by};
 ghost use Rattle.house.specs.Hears.{told_model, heard_answer, Stepped};
 ghost use Rattle.house.specs.Houses.{house_state, Met, puts, takes};
 
-use crate::sends::ROOM;
+use crate::channels::take_from;
 use crate::sessions::id_at;
 use crate::state::House;
 use channel::Channel;
 use server::{Answer, Served, WorkOrder};
 use service::Service;
 use slots::SLOTS;
-use wire::{Refusal, Status, write_reply};
+use wire::{ROOM, Refusal, Status, has_room, write};
 
 /// What a hear is to do with a new call: run it, or set it aside to be resumed.
+// No closure: it is an argument of the rules, and a history tells it.
 #[derive(Clone, Copy)]
 pub enum Told {
     Run,
@@ -47,10 +48,8 @@ fn put_answer<R: Channel>(replies: &mut R, answer: &Answer, buffer: &mut [u8])
     ensures after { R.Channel.state replies.new ≡ R.Channel.model.puts (R.Channel.state replies.old) (reply_message (answer_model answer.now)) }
     ensures buffer { buffer.new ≡ laid (Some (reply_message (answer_model answer.now))) buffer.old }
 {
-    match write_reply(answer.reply(), buffer) {
-        Ok(len) => replies.put(&buffer[0..len]),
-        Err(_) => unreachable(),
-    }
+    let len = write(answer.reply(), buffer).unwrap();
+    replies.put(&buffer[..len]);
 }
 
 impl<S: Service, Q: Channel, R: Channel> House<S, Q, R> {
@@ -75,8 +74,7 @@ impl<S: Service, Q: Channel, R: Channel> House<S, Q, R> {
         ensures { Stepped S.Service Q.Channel R.Channel self.new (answer_by heard_answer result) (hear_request (parts S.Service Q.Channel R.Channel) (house_state S.Service Q.Channel R.Channel self.old) (told_model told) request.now) }
     {
         let mut buffer = [0; ROOM];
-        match self.server.serve(request) {
-            Served::Fault(refusal) => Err(refusal),
+        match self.server.serve(request)? {
             Served::Says(answer) => {
                 put_answer(&mut self.replies, &answer, &mut buffer);
                 Ok(Heard::Status(answer.reply().status))
@@ -97,13 +95,8 @@ impl<S: Service, Q: Channel, R: Channel> House<S, Q, R> {
         ensures met { Met S.Service Q.Channel R.Channel self.old self.new (asked_hear (told_model told) (length scratch.old)) (answer_by heard_answer result) }
         ensures scratch { scratch.new ≡ laid (takes S.Service Q.Channel R.Channel self.old (asked_hear (told_model told) (length scratch.old))) scratch.old }
     {
-        if scratch.len() < ROOM {
-            return Err(Refusal::ShortScratch);
-        }
-        let Some(len) = self.requests.take(scratch) else {
-            return Err(Refusal::NothingWaits);
-        };
-        self.serve(told, &scratch[0..len])
+        let len = take_from(&mut self.requests, scratch)?;
+        self.serve(told, &scratch[..len])
     }
 
     /// Runs the work set aside at a slot of a terminal's session, and puts the reply.
@@ -116,9 +109,7 @@ impl<S: Service, Q: Channel, R: Channel> House<S, Q, R> {
         ensures met { Met S.Service Q.Channel R.Channel self.old self.new (asked_resume terminal slot (length scratch.old)) (answer_by (λ _. ok) result) }
         ensures scratch { scratch.new ≡ laid (puts S.Service Q.Channel R.Channel self.old (asked_resume terminal slot (length scratch.old))) scratch.old }
     {
-        if scratch.len() < ROOM {
-            return Err(Refusal::ShortScratch);
-        }
+        has_room(scratch)?;
         let id = id_at(&self.places, terminal)?;
         // No session has a slot past the last.
         let slot = slot.min(SLOTS) as u32;

@@ -1,6 +1,7 @@
 //! A house: one server and its service, up to eight terminals, and a channel each way between them.
 #![tactic(auto)]
 
+mod channels;
 pub mod hears;
 mod made;
 mod places;

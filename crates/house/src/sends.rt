@@ -1,106 +1,69 @@
-ghost use Rattle.std.specs.Prelude.{◌≡◌, ℕ, map, length, None, slice_index_or};
+ghost use Rattle.std.specs.Prelude.{◌≡◌, ℕ, ◌≤◌, IfOk, map, length, Result, slice_index_or};
 ghost use Rattle.channel.specs.Channel.{laid};
-ghost use Rattle.terminal.specs.Terminal.{TerminalM, after_sending, order_sends, part_sends, resend_sends};
-ghost use Rattle.terminal.specs.Models.{terminal_model};
-ghost use Rattle.terminal.specs.Sends.{in_scratch};
+ghost use Rattle.wire.specs.Wire.{Refusal as WireRefusal};
+ghost use Rattle.terminal.specs.Terminal.{TerminalM, Sending};
 ghost use Rattle.exactly_once.specs.History.{Answer, ordered, ok, asked_order, asked_part, asked_resend};
-ghost use Rattle.exactly_once.specs.Houses.{parts};
-ghost use Rattle.house.specs.Houses.{place_model, Met, puts};
 ghost use Rattle.house.specs.Answers.{answer_by};
-ghost use Rattle.house.specs.Sends.{dispatched, sends_in, place_after, placed, Wrote, SentBy};
+ghost use Rattle.house.specs.Houses.{place_model, Met, puts};
+ghost use Rattle.house.specs.Sends.{sends_in, place_after, placed, CanWrite, Wrote, Writes, SentBy};
 
 use crate::places::Place;
 use crate::state::House;
 use channel::Channel;
 use service::Service;
 use terminal::{Sent, Terminal};
-use wire::Refusal;
+use wire::{Refusal, has_room};
 
-/// The room that any message fits in.
-pub(crate) const ROOM: usize = 304;
-
-/// What a terminal is to send: a new call, an offer to part with a slot, or an open call once more.
-#[derive(Clone, Copy)]
-pub(crate) enum Dispatch<'a> {
-    Order { keep: bool, body: &'a [u8] },
-    Part { slot: usize },
-    Resend { slot: usize },
-}
-
-impl<'a> Dispatch<'a> {
-    fn order(keep: bool, body: &'a [u8]) -> Dispatch<'a>
-        ensures { dispatched result ≡ (λ (t : TerminalM). order_sends t keep body.now) }
-    {
-        Dispatch::Order { keep, body }
-    }
-
-    fn part(slot: usize) -> Dispatch<'a>
-        ensures { dispatched result ≡ (λ (t : TerminalM). part_sends t slot) }
-    {
-        Dispatch::Part { slot }
-    }
-
-    fn resend(slot: usize) -> Dispatch<'a>
-        ensures { dispatched result ≡ (λ (t : TerminalM). resend_sends t slot) }
-    {
-        Dispatch::Resend { slot }
-    }
-
-    fn by(self, terminal: &mut Terminal, scratch: &mut [u8]) -> Result<Sent, Refusal>
-        ensures wrote { Wrote (in_scratch (length scratch.old) (dispatched self.entry (terminal_model terminal.old))) scratch.old scratch.new result }
-        ensures after { terminal_model terminal.new ≡ after_sending (terminal_model terminal.old) (in_scratch (length scratch.old) (dispatched self.entry (terminal_model terminal.old))) }
-    {
-        match self {
-            Dispatch::Order { keep, body } => terminal.order(keep, body, scratch),
-            Dispatch::Part { slot } => terminal.part(slot, scratch),
-            Dispatch::Resend { slot } => terminal.resend(slot, scratch),
-        }
-    }
-}
-
+// What is asked of the closure stands at each of the three functions that hand it on: a bound on a closure has no
+// shorter form.
 impl Place {
-    fn send(&mut self, what: Dispatch<'_>, scratch: &mut [u8]) -> Result<Sent, Refusal>
-        ensures wrote { Wrote (sends_in (length scratch.old) (dispatched what.entry) (place_model self.old)) scratch.old scratch.new result }
-        ensures after { place_model self.new ≡ place_after (place_model self.old) (sends_in (length scratch.old) (dispatched what.entry) (place_model self.old)) }
+    fn send<F: FnOnce(&mut Terminal, &mut [u8]) -> Result<Sent, Refusal>>(
+        &mut self,
+        scratch: &mut [u8],
+        write: F,
+    ) -> Result<Sent, Refusal>
+        requires { CanWrite F.FnOnce write }
+        ensures wrote { (sends : TerminalM → Result Sending WireRefusal) → Writes F.FnOnce write sends → Wrote (sends_in (length scratch.old) sends (place_model self.old)) scratch.old scratch.new result }
+        ensures after { (sends : TerminalM → Result Sending WireRefusal) → Writes F.FnOnce write sends → place_model self.new ≡ place_after (place_model self.old) (sends_in (length scratch.old) sends (place_model self.old)) }
+        ensures fits { IfOk result (λ s. s.len ≤ 304) }
     {
-        match &mut self.terminal {
-            None => Err(Refusal::NoTerminal),
-            Some(terminal) => what.by(terminal, scratch),
-        }
+        let terminal = self.terminal.as_mut().ok_or(Refusal::NoTerminal)?;
+        write(terminal, scratch)
     }
 }
 
 /// Has the terminal at a place write its message to the front of the scratch.
-fn send_at(
+fn send_at<F: FnOnce(&mut Terminal, &mut [u8]) -> Result<Sent, Refusal>>(
     places: &mut [Place],
     place: usize,
-    what: Dispatch<'_>,
     scratch: &mut [u8],
+    write: F,
 ) -> Result<Sent, Refusal>
-    ensures wrote { Wrote (sends_in (length scratch.old) (dispatched what.entry) (slice_index_or (map place_model places.old) place None)) scratch.old scratch.new result }
-    ensures after { map place_model places.new ≡ placed (map place_model places.old) place (sends_in (length scratch.old) (dispatched what.entry) (slice_index_or (map place_model places.old) place None)) }
+    requires { CanWrite F.FnOnce write }
+    ensures wrote { (sends : TerminalM → Result Sending WireRefusal) → Writes F.FnOnce write sends → Wrote (sends_in (length scratch.old) sends (slice_index_or (map place_model places.old) place None)) scratch.old scratch.new result }
+    ensures after { (sends : TerminalM → Result Sending WireRefusal) → Writes F.FnOnce write sends → map place_model places.new ≡ placed (map place_model places.old) place (sends_in (length scratch.old) sends (slice_index_or (map place_model places.old) place None)) }
+    ensures fits { IfOk result (λ s. s.len ≤ 304) }
 {
     if place >= places.len() {
         return Err(Refusal::NoTerminal);
     }
-    places[place].send(what, scratch)
+    // `get_mut` of a slice would tell nothing of the places afterwards.
+    places[place].send(scratch, write)
 }
 
 impl<S: Service, Q: Channel, R: Channel> House<S, Q, R> {
-    fn send(
+    fn send<F: FnOnce(&mut Terminal, &mut [u8]) -> Result<Sent, Refusal>>(
         &mut self,
         terminal: usize,
-        what: Dispatch<'_>,
         scratch: &mut [u8],
+        write: F,
     ) -> Result<usize, Refusal>
-        ensures { (say : ℕ → Answer) → SentBy S.Service Q.Channel R.Channel self.old self.new scratch.old scratch.new terminal say (dispatched what.entry) result }
+        requires { CanWrite F.FnOnce write }
+        ensures { (sends : TerminalM → Result Sending WireRefusal) (say : ℕ → Answer) → Writes F.FnOnce write sends → SentBy S.Service Q.Channel R.Channel self.old self.new scratch.old scratch.new terminal say sends result }
     {
-        if scratch.len() < ROOM {
-            return Err(Refusal::ShortScratch);
-        }
-        let sent = send_at(&mut self.places, terminal, what, scratch)?;
-        let len = sent.len;
-        self.requests.put(&scratch[0..len]);
+        has_room(scratch)?;
+        let sent = send_at(&mut self.places, terminal, scratch, write)?;
+        self.requests.put(&scratch[..sent.len]);
         Ok(sent.slot)
     }
 
@@ -115,7 +78,7 @@ impl<S: Service, Q: Channel, R: Channel> House<S, Q, R> {
         ensures met { Met S.Service Q.Channel R.Channel self.old self.new (asked_order terminal keep body.now (length scratch.old)) (answer_by ordered result) }
         ensures scratch { scratch.new ≡ laid (puts S.Service Q.Channel R.Channel self.old (asked_order terminal keep body.now (length scratch.old))) scratch.old }
     {
-        self.send(terminal, Dispatch::order(keep, body), scratch)
+        self.send(terminal, scratch, |t, scratch| t.order(keep, body, scratch))
     }
 
     /// Offers to part with a slot of a terminal, by a bare call there.
@@ -128,7 +91,7 @@ impl<S: Service, Q: Channel, R: Channel> House<S, Q, R> {
         ensures met { Met S.Service Q.Channel R.Channel self.old self.new (asked_part terminal slot (length scratch.old)) (answer_by ordered result) }
         ensures scratch { scratch.new ≡ laid (puts S.Service Q.Channel R.Channel self.old (asked_part terminal slot (length scratch.old))) scratch.old }
     {
-        self.send(terminal, Dispatch::part(slot), scratch)
+        self.send(terminal, scratch, |t, scratch| t.part(slot, scratch))
     }
 
     /// Sends the open call of a terminal's slot once more, the same bytes.
@@ -141,7 +104,7 @@ impl<S: Service, Q: Channel, R: Channel> House<S, Q, R> {
         ensures met { Met S.Service Q.Channel R.Channel self.old self.new (asked_resend terminal slot (length scratch.old)) (answer_by (λ _. ok) result) }
         ensures scratch { scratch.new ≡ laid (puts S.Service Q.Channel R.Channel self.old (asked_resend terminal slot (length scratch.old))) scratch.old }
     {
-        self.send(terminal, Dispatch::resend(slot), scratch)?;
+        self.send(terminal, scratch, |t, scratch| t.resend(slot, scratch))?;
         Ok(())
     }
 }

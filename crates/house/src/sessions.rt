@@ -1,5 +1,4 @@
-ghost use Rattle.std.specs.Prelude.{◌≡◌, not, map, None, slice_index_or};
-ghost use Rattle.std.specs.Option.{unwrap_or};
+ghost use Rattle.std.specs.Prelude.{◌≡◌, ◌<◌, not, length, map, IfSome, slice_index_or};
 ghost use Rattle.common.specs.Search.{lowest_at};
 ghost use Rattle.wire.specs.Models.{answer_model, id_model};
 ghost use Rattle.server.specs.Models.{model};
@@ -14,42 +13,23 @@ use crate::state::House;
 use channel::Channel;
 use server::Server;
 use service::Service;
-use slots::{Test, lowest};
 use terminal::Terminal;
 use wire::{Refusal, SessionId};
 
-/// Whether no session of the terminal at a place stands.
-#[derive(Drop)]
-struct Vacant<'a> {
-    server: &'a Server,
-}
-
-impl<'a> Test<Place> for Vacant<'a> {
-    ghost passes = { λ v p. not (stands (model v.server.now) (place_model p)) };
-
-    fn test(&self, item: &Place) -> bool {
-        match &item.terminal {
-            None => true,
-            Some(terminal) => !self.server.stands(terminal.id()),
-        }
-    }
-}
-
-/// The lowest place without a standing session. Where the server has room for one, so have the places.
-fn lowest_vacant(places: &[Place], server: &Server) -> usize
-    ensures { result ≡ unwrap_or (lowest_at (λ t. not (stands (model server.now) t)) (map place_model places.now) 0) 7 }
+/// The lowest place without a standing session.
+fn lowest_vacant(places: &[Place], server: &Server) -> Option<usize>
+    ensures found { result ≡ lowest_at (λ p. not (stands (model server.now) (place_model p))) places.now 0 }
+    ensures within { IfSome result (λ p. p < length places.now) }
 {
-    lowest(places, &Vacant { server }).unwrap_or(PLACES - 1)
+    places.iter().position(|place| !place.stands(server))
 }
 
 impl Place {
     fn id(&self) -> Result<SessionId, Refusal>
         ensures { answer_model id_model result ≡ id_in (place_model self.now) }
     {
-        match &self.terminal {
-            None => Err(Refusal::NoTerminal),
-            Some(terminal) => Ok(terminal.id()),
-        }
+        let terminal = self.terminal.as_ref().ok_or(Refusal::NoTerminal)?;
+        Ok(terminal.id())
     }
 }
 
@@ -57,10 +37,7 @@ impl Place {
 pub(crate) fn id_at(places: &[Place], place: usize) -> Result<SessionId, Refusal>
     ensures { answer_model id_model result ≡ id_in (slice_index_or (map place_model places.now) place None) }
 {
-    if place >= places.len() {
-        return Err(Refusal::NoTerminal);
-    }
-    places[place].id()
+    places.get(place).ok_or(Refusal::NoTerminal)?.id()
 }
 
 impl<S: Service, Q: Channel, R: Channel> House<S, Q, R> {
@@ -68,7 +45,8 @@ impl<S: Service, Q: Channel, R: Channel> House<S, Q, R> {
     pub fn open(&mut self, target: u32) -> Result<usize, Refusal>
         ensures { Met S.Service Q.Channel R.Channel self.old self.new (asked_open target) (answer_by opened result) }
     {
-        let place = lowest_vacant(&self.places, &self.server);
+        // Where the server has room for a session, a place is vacant.
+        let place = lowest_vacant(&self.places, &self.server).unwrap_or(PLACES - 1);
         let id = self.server.open(target)?;
         self.places[place] = Place {
             terminal: Some(Terminal::new(id, target)),

@@ -4,6 +4,7 @@ use server::Server;
 use service::Service;
 
 /// A house: a server, the service that it runs calls on, the terminals, and a channel each way.
+// Its callers name terminals and slots by any number: one that no terminal or slot has is refused.
 #[derive(Drop)]
 pub struct House<S: Service, Q: Channel, R: Channel> {
     pub(crate) server: Server,

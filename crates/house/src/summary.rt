@@ -10,7 +10,6 @@ use crate::state::House;
 use channel::Channel;
 use server::Server;
 use service::Service;
-use slots::{Test, count};
 
 /// What a house holds, counted.
 #[derive(Clone, Copy)]
@@ -25,27 +24,10 @@ pub struct Summary {
     pub set_aside: usize,
 }
 
-/// Whether the session of the terminal at a place stands.
-#[derive(Drop)]
-struct Standing<'a> {
-    server: &'a Server,
-}
-
-impl<'a> Test<Place> for Standing<'a> {
-    ghost passes = { λ v p. stands (model v.server.now) (place_model p) };
-
-    fn test(&self, item: &Place) -> bool {
-        match &item.terminal {
-            None => false,
-            Some(terminal) => self.server.stands(terminal.id()),
-        }
-    }
-}
-
 fn sessions_in(places: &[Place], server: &Server) -> usize
     ensures { result ≡ count_by (stands (model server.now)) (map place_model places.now) }
 {
-    count(places, &Standing { server })
+    places.iter().filter(|place| place.stands(server)).count()
 }
 
 impl Place {
@@ -54,10 +36,9 @@ impl Place {
         ensures value { result ≡ open_at (place_model self.now) }
         ensures low { result ≤ 16 }
     {
-        match &self.terminal {
-            None => 0,
-            Some(terminal) => terminal.open_calls(),
-        }
+        self.terminal
+            .as_ref()
+            .map_or(0, |terminal| terminal.open_calls())
     }
 }
 
@@ -65,11 +46,7 @@ fn open_in(places: &[Place]) -> usize
     requires { length places.now ≤ 8 }
     ensures { result ≡ sum_by open_at (map place_model places.now) }
 {
-    let mut total = 0;
-    for i in 0..places.len() {
-        total += places[i].open_calls();
-    }
-    total
+    places.iter().map(|place| place.open_calls()).sum()
 }
 
 impl<S: Service, Q: Channel, R: Channel> House<S, Q, R> {

@@ -1,4 +1,5 @@
-ghost use Rattle.std.specs.Prelude.{◌≡◌, ◌≤◌, map, length};
+ghost use Rattle.std.specs.Prelude.{◌≡◌, ◌<◌, ◌≤◌, map, length, IfSome};
+ghost use Rattle.common.specs.Search.{lowest_at};
 ghost use Rattle.channel.specs.Channel.{laid};
 ghost use Rattle.wire.specs.Wire.{read_reply};
 ghost use Rattle.wire.specs.Models.{answer_model, reply_model, id_model};
@@ -8,27 +9,17 @@ ghost use Rattle.house.specs.Answers.{answer_by};
 ghost use Rattle.house.specs.Houses.{place_model, Met, takes};
 ghost use Rattle.house.specs.Takes.{closing_model, taken_answer, Short, bears_id, accepts, settled, handed, received};
 
+use crate::channels::take_from;
 use crate::places::Place;
-use crate::sends::ROOM;
 use crate::state::House;
 use channel::Channel;
 use service::Service;
-use slots::{Body, Test, lowest};
+use slots::Body;
 use terminal::Effect;
-use wire::{Refusal, Reply, SessionId, Status, read_reply};
+use wire::{Refusal, Reply, SessionId, read_reply};
 
-/// What a reply did to the open call that it belongs to.
-#[derive(Clone, Copy)]
-pub enum Closing {
-    /// Closed: it was served, and this is its reply.
-    Answered(Body),
-    /// Closed: it was served, but its reply was not kept.
-    Done,
-    /// Closed: its session is gone, so whether it was served is not known.
-    Unknown,
-    /// Still open: the server did not serve it at this time.
-    StillOpen(Status),
-}
+/// What a reply did to the open call that it belongs to, with a copy of its body.
+pub type Closing = Effect<Body>;
 
 /// A reply that belongs to an open call: where that call was ordered, and what the reply did to it.
 #[derive(Clone, Copy)]
@@ -38,65 +29,57 @@ pub struct Taken {
     pub closing: Closing,
 }
 
-impl Closing {
-    fn of(effect: Effect<'_>) -> Closing
-        requires { Short (effect_model effect) }
-        ensures { closing_model result ≡ effect_model effect.entry }
-    {
-        match effect {
-            Effect::Answered(bytes) => match Body::copied(bytes) {
-                Some(body) => Closing::Answered(body),
-                None => unreachable(),
-            },
-            Effect::Done => Closing::Done,
-            Effect::Unknown => Closing::Unknown,
-            Effect::StillOpen(status) => Closing::StillOpen(status),
-        }
-    }
-}
-
-/// Whether the terminal at a place has a session's id.
-#[derive(Drop)]
-struct Bears {
-    id: SessionId,
-}
-
-impl Test<Place> for Bears {
-    ghost passes = { λ b p. bears_id (id_model b.id) (place_model p) };
-
-    fn test(&self, item: &Place) -> bool {
-        match &item.terminal {
-            None => false,
-            Some(terminal) => terminal.has_id(self.id),
-        }
+// Variant by variant: a `map` of `Effect` for this one use is as long, with the clauses for its closure besides.
+/// Keeps the body of an effect: what a reply carries always fits.
+fn kept(effect: Effect<&[u8]>) -> Closing
+    requires { Short (effect_model effect) }
+    ensures { closing_model result ≡ effect_model effect.entry }
+{
+    match effect {
+        Effect::Answered(bytes) => Effect::Answered(Body::copied(bytes).unwrap()),
+        Effect::Done => Effect::Done,
+        Effect::Unknown => Effect::Unknown,
+        Effect::StillOpen(status) => Effect::StillOpen(status),
     }
 }
 
 impl Place {
+    /// Whether its terminal has a session's id.
+    fn bears(&self, id: SessionId) -> bool
+        ensures { result ≡ bears_id (id_model id) (place_model self.now) }
+    {
+        self.terminal
+            .as_ref()
+            .is_some_and(|terminal| terminal.has_id(id))
+    }
+
     fn accept(&mut self, reply: Reply<'_>) -> Result<Closing, Refusal>
         requires { length reply.body.now ≤ 256 }
         ensures answer { answer_model closing_model result ≡ accepts (place_model self.old) (reply_model reply.entry) }
         ensures after { place_model self.new ≡ settled (place_model self.old) (reply_model reply.entry) }
     {
-        match &mut self.terminal {
-            None => Err(Refusal::NoCall),
-            Some(terminal) => {
-                let effect = terminal.accept(reply)?;
-                Ok(Closing::of(effect))
-            }
-        }
+        let terminal = self.terminal.as_mut().ok_or(Refusal::NoCall)?;
+        terminal.accept(reply).map(kept)
     }
 }
 
+/// The lowest place whose terminal has a session's id.
+fn bearer(places: &[Place], id: SessionId) -> Option<usize>
+    ensures found { result ≡ lowest_at (λ p. bears_id (id_model id) (place_model p)) places.now 0 }
+    ensures within { IfSome result (λ p. p < length places.now) }
+{
+    places.iter().position(|place| place.bears(id))
+}
+
 /// Hands a reply to the terminal whose session id it bears.
+#[tactic(auto, using(slots::proofs::Slots::lowest_map))]
 fn accept_at(places: &mut [Place], reply: Reply<'_>) -> Result<Taken, Refusal>
     requires { length reply.body.now ≤ 256 }
     ensures answer { answer_by taken_answer result ≡ (handed (map place_model places.old) (reply_model reply.entry)).answer }
     ensures after { map place_model places.new ≡ (handed (map place_model places.old) (reply_model reply.entry)).records }
 {
-    let Some(place) = lowest(places, &Bears { id: reply.id }) else {
-        return Err(Refusal::NoCall);
-    };
+    let place = bearer(places, reply.id).ok_or(Refusal::NoCall)?;
+    // `get_mut` of a slice would tell nothing of the places afterwards.
     let closing = places[place].accept(reply)?;
     Ok(Taken {
         terminal: place,
@@ -120,12 +103,7 @@ impl<S: Service, Q: Channel, R: Channel> House<S, Q, R> {
         ensures met { Met S.Service Q.Channel R.Channel self.old self.new (asked_take (length scratch.old)) (answer_by taken_answer result) }
         ensures scratch { scratch.new ≡ laid (takes S.Service Q.Channel R.Channel self.old (asked_take (length scratch.old))) scratch.old }
     {
-        if scratch.len() < ROOM {
-            return Err(Refusal::ShortScratch);
-        }
-        let Some(len) = self.replies.take(scratch) else {
-            return Err(Refusal::NothingWaits);
-        };
-        receive(&mut self.places, &scratch[0..len])
+        let len = take_from(&mut self.replies, scratch)?;
+        receive(&mut self.places, &scratch[..len])
     }
 }

@@ -1,5 +1,5 @@
 -- A body keeps the grams and the size of every bin; so does a run of them.
-use Rattle.std.proofs.Common.{◌≡◌, ℕ, ◌+◌, ◌-◌, ◌<◌, ◌≤◌, Bool, true, false, cond, eqb, ◌⊎◌, List, [], ◌∷◌, length, get_or, set, sym, refl, ◌∙◌, inl, inr, arith}
+use Rattle.std.proofs.Common.{◌≡◌, ℕ, ◌+◌, ◌-◌, ◌<◌, ◌≤◌, Bool, true, false, cond, eqb, ◌⊎◌, List, [], ◌∷◌, length, get_or, set, sym, refl, ap, ◌∙◌, inl, inr, arith}
 use Rattle.std.proofs.lemmas.List.{length-set, get_or-set_same, get_or-set_other, set_past}
 use Rattle.std.proofs.lemmas.List.Sums.{sum_by-set}
 use Rattle.std.proofs.lemmas.Bool.{cases_eq, cases_lt, eqb-true, eqb-false}
@@ -79,3 +79,7 @@ run_keeps bins (body ∷ bodies) w =
     let k = step_keeps bins (ledger_ask body) w in
     let r = run_keeps (ledger_model.next bins body) bodies k.whole in
     record { total = r.total ∙ k.total; whole = r.whole; small = λ s. r.small (k.small s) }
+
+-- the grams that a run led to are those of its first bins
+pub grams_kept : (bins first : List ℕ) (bodies : List Bytes) → bins ≡ after_run first bodies → length first ≡ 32 → grams bins ≡ grams first
+grams_kept bins first bodies e w = ap grams e ∙ (run_keeps first bodies w).total

@@ -1,19 +1,20 @@
--- The code's enums: what each case means, its number and its bytes.
-use Rattle.std.specs.Prelude.{ℕ, cond, ◌&&◌, [], ◌∷◌, ◌++◌, length, Some, None, Option, ◌==◌, slice_index}
+-- The code's enums: what each case means, and its bytes.
+use Rattle.std.specs.Prelude.{ℕ, cond, ◌&&◌, [], ◌∷◌, ◌++◌, length, Some, None, Ok, Err, Option, Result, ◌==◌, slice_index}
 use Rattle.common.specs.Bytes.{Bytes, be32, bytes4}
 use Rattle.ledger.specs.Ledger.{LedgerAsk, move, count, unfit}
+use Rattle.ledger.specs.Refusals.{status_number, status_read}
 use Rattle.ledger.specs.declared.body.Ask.{Ask}
-use Rattle.ledger.specs.declared.body.Ask.TheVariants.{Move, Count, Unfit}
-use Rattle.ledger.specs.declared.reply.Refused.{Refused}
-use Rattle.ledger.specs.declared.reply.Refused.TheVariants.{NotOfForm, NoSuchBin, HoldsLess, WouldPass}
+use Rattle.ledger.specs.declared.body.Ask.TheVariants.{Move, Count}
+use Rattle.ledger.specs.declared.refused.Refused.{Refused}
+use Rattle.ledger.specs.declared.refused.NoRefusal.{NoRefusal}
 use Rattle.ledger.specs.declared.reply.Answer.{Answer}
-use Rattle.ledger.specs.declared.reply.Answer.TheVariants as answer
+use Rattle.ledger.specs.declared.reply.Answer.TheVariants.{Moved, Counted}
 
--- what an ask means
-abbrev pub ask_model : Ask → LedgerAsk
-ask_model (Move from to amount) = move from to amount
-ask_model (Count bin) = count bin
-ask_model Unfit = unfit
+-- what was read of a body; none is of no form
+abbrev pub ask_model : Option Ask → LedgerAsk
+ask_model None = unfit
+ask_model (Some (Move from to amount)) = move from to amount
+ask_model (Some (Count bin)) = count bin
 
 -- the body of a move
 abbrev pub move_bytes : ℕ → ℕ → ℕ → Bytes
@@ -23,32 +24,20 @@ move_bytes from to amount = 1 ∷ from ∷ to ∷ bytes4 amount
 abbrev pub count_bytes : ℕ → Bytes
 count_bytes bin = 2 ∷ bin ∷ []
 
--- the status of a refusal
-abbrev pub status_number : Refused → ℕ
-status_number NotOfForm = 1
-status_number NoSuchBin = 2
-status_number HoldsLess = 3
-status_number WouldPass = 4
+-- what is answered as a reply's bytes: 0 and the counts, or the status
+abbrev pub reply_bytes : Result Answer Refused → Bytes
+reply_bytes (Ok (Moved from to)) = 0 ∷ bytes4 from ++ bytes4 to
+reply_bytes (Ok (Counted grams)) = 0 ∷ bytes4 grams
+reply_bytes (Err refused) = status_number refused ∷ []
 
--- and the refusal of a status
-abbrev pub status_read : ℕ → Option Refused
-status_read s =
-    cond (s == 1) (Some NotOfForm) (cond (s == 2) (Some NoSuchBin) (cond (s == 3) (Some HoldsLess) (cond (s == 4) (Some WouldPass) None)))
-
--- an answer as a reply's bytes: 0 and the counts, or the status
-abbrev pub answer_bytes : Answer → Bytes
-answer_bytes (answer.Moved from to) = 0 ∷ bytes4 from ++ bytes4 to
-answer_bytes (answer.Counted grams) = 0 ∷ bytes4 grams
-answer_bytes (answer.Refused r) = status_number r ∷ []
-
--- a refusal as an answer
-abbrev pub refused_answer : Option Refused → Option Answer
-refused_answer None = None
-refused_answer (Some r) = Some (answer.Refused r)
+-- a refusal as what is answered
+abbrev pub refused_reply : Result Refused NoRefusal → Option (Result Answer Refused)
+refused_reply (Ok refused) = Some (Err refused)
+refused_reply (Err _) = None
 
 -- what a reply says
-abbrev pub read_answer : Bytes → Option Answer
-read_answer bs =
-    cond (slice_index bs 0 == 0 && length bs == 5) (Some (answer.Counted (be32 bs 1)))
-    (cond (slice_index bs 0 == 0 && length bs == 9) (Some (answer.Moved (be32 bs 1) (be32 bs 5)))
-    (cond (length bs == 1) (refused_answer (status_read (slice_index bs 0))) None))
+abbrev pub reply_read : Bytes → Option (Result Answer Refused)
+reply_read bs =
+    cond (slice_index bs 0 == 0 && length bs == 5) (Some (Ok (Counted (be32 bs 1))))
+    (cond (slice_index bs 0 == 0 && length bs == 9) (Some (Ok (Moved (be32 bs 1) (be32 bs 5))))
+    (cond (length bs == 1) (refused_reply (status_read (slice_index bs 0))) None))

@@ -1,10 +1,11 @@
 -- What holds of the ledger over any run of bodies, and of each single one.
-use Rattle.std.specs.Prelude.{◌≡◌, ℕ, ◌+◌, ◌<◌, ◌≤◌, ◌⊎◌, List, [], ◌∷◌, length, Some, sum, ◌≢◌, slice_index}
+use Rattle.std.specs.Prelude.{◌≡◌, ℕ, ◌+◌, ◌<◌, ◌≤◌, ◌⊎◌, List, [], ◌∷◌, length, Some, Ok, Err, Result, sum, ◌≢◌, slice_index}
 use Rattle.common.specs.Bytes.{Bytes}
 use Rattle.ledger.specs.Ledger.{LedgerAsk, move, count, unfit, ledger_ask, ledger_after, ledger_answer, ledger_model}
-use Rattle.ledger.specs.Forms.{move_bytes, count_bytes, answer_bytes, read_answer}
+use Rattle.ledger.specs.Forms.{move_bytes, count_bytes, reply_bytes, reply_read}
+use Rattle.ledger.specs.declared.refused.Refused.{Refused}
 use Rattle.ledger.specs.declared.reply.Answer.{Answer}
-use Rattle.ledger.specs.declared.reply.Answer.TheVariants.{Moved, Counted, Refused}
+use Rattle.ledger.specs.declared.reply.Answer.TheVariants.{Moved, Counted}
 
 -- the grams in all bins together
 abbrev pub grams : List ℕ → ℕ
@@ -59,17 +60,17 @@ pub record Smallest : Type 0 where
   pub least : (bins : List ℕ) (ask : LedgerAsk) (status : ℕ) → Applies bins ask status → first_byte (ledger_answer bins ask) ≤ status
 
 -- counts of 32 bits
-abbrev pub Fits : Answer → Type 0
-Fits (Moved from to) = (from < 4294967296) × (to < 4294967296)
-Fits (Counted n) = n < 4294967296
-Fits (Refused _) = Unit {0}
+abbrev pub Fits : Result Answer Refused → Type 0
+Fits (Ok (Moved from to)) = (from < 4294967296) × (to < 4294967296)
+Fits (Ok (Counted n)) = n < 4294967296
+Fits (Err _) = Unit {0}
 
 -- bodies and replies as bytes
 pub record Readable : Type 0 where
   -- a body asks what it was made for, and a reply says what was answered
   pub moves : (from to amount : ℕ) → amount < 4294967296 → ledger_ask (move_bytes from to amount) ≡ move from to amount
   pub counts : (bin : ℕ) → ledger_ask (count_bytes bin) ≡ count bin
-  pub answers : (answer : Answer) → Fits answer → read_answer (answer_bytes answer) ≡ Some answer
+  pub answers : (outcome : Result Answer Refused) → Fits outcome → reply_read (reply_bytes outcome) ≡ Some outcome
   -- a move's body has 7 bytes, and its reply, done, 9
   pub body_7 : (body : Bytes) (from to amount : ℕ) → ledger_ask body ≡ move from to amount → length body ≡ 7
   pub reply_9 : (bins : List ℕ) (from to amount : ℕ) → first_byte (ledger_answer bins (move from to amount)) ≡ 0 → length (ledger_answer bins (move from to amount)) ≡ 9

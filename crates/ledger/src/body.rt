@@ -1,32 +1,28 @@
-ghost use Rattle.std.specs.Prelude.{◌≡◌, [], ◌∷◌};
-ghost use Rattle.common.specs.Bytes.{bytes4};
+ghost use Rattle.std.specs.Prelude.{◌≡◌};
 ghost use Rattle.ledger.specs.Ledger.{ledger_ask};
 ghost use Rattle.ledger.specs.Forms.{ask_model, move_bytes, count_bytes};
 
 /// What a body asks of the ledger.
-#[derive(Clone, Copy)]
+#[derive(Clone, Copy, PartialEq, Eq, Debug)]
 pub enum Ask {
     Move { from: u8, to: u8, amount: u32 },
     Count { bin: u8 },
-    Unfit,
 }
 
 impl Ask {
-    /// Takes a body apart.
-    pub fn read(body: &[u8]) -> Ask
+    /// Takes a body apart; none is one of no such form.
+    // No `TryFrom`: a body is unfit in one way, so that an error would say no more than none does.
+    pub fn read(body: &[u8]) -> Option<Ask>
         ensures { ask_model result ≡ ledger_ask body.now }
     {
         match body {
-            [1, from, to, a, b, c, d] => {
-                let amount = u32::from_be_bytes([*a, *b, *c, *d]);
-                Ask::Move {
-                    from: *from,
-                    to: *to,
-                    amount,
-                }
-            }
-            [2, which] => Ask::Count { bin: *which },
-            _ => Ask::Unfit,
+            [1, from, to, a, b, c, d] => Some(Ask::Move {
+                from: *from,
+                to: *to,
+                amount: u32::from_be_bytes([*a, *b, *c, *d]),
+            }),
+            [2, which] => Some(Ask::Count { bin: *which }),
+            _ => None,
         }
     }
 }

@@ -1,29 +1,21 @@
 ghost use Rattle.ledger.specs.Runs.{RunKeeps, Alters, Smallest, Readable};
 
 /// No run of bodies makes or loses a gram, and every bin stays one of 32 bits.
-pub fn run_keeps() -> u8
+pub fn run_keeps()
     ensures { RunKeeps }
-{
-    0
-}
+{}
 
 /// A body that is refused and a count leave every bin; a move alters its two.
-pub fn alters() -> u8
+pub fn alters()
     ensures { Alters }
-{
-    0
-}
+{}
 
 /// The status is the smallest that applies.
-pub fn smallest() -> u8
+pub fn smallest()
     ensures { Smallest }
-{
-    0
-}
+{}
 
 /// A body asks what it was made for, and a reply says what was answered.
-pub fn readable() -> u8
+pub fn readable()
     ensures { Readable }
-{
-    0
-}
+{}

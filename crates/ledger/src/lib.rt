@@ -4,10 +4,12 @@
 mod body;
 mod book;
 pub mod laws;
+mod refused;
 mod reply;
 #[cfg(test)]
 mod tests;
 
 pub use body::{Ask, count_body, move_body};
 pub use book::Ledger;
-pub use reply::{Answer, Refused};
+pub use refused::{NoRefusal, Refused};
+pub use reply::{Answer, read_reply, write_reply};

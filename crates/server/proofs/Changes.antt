@@ -2,7 +2,7 @@
 use Rattle.std.proofs.Common.{◌≡◌, ℕ, zero, suc, ◌+◌, ◌<◌, ◌≤◌, Bool, true, false, cond, not, ◌&&◌, ltb, leb, List, [], ◌∷◌, map, length, get_or, take, drop, set, is_some, Some, None, count_by, Option, sym, refl, ap, ◌∙◌, arith}
 use borrow.Author.Tests.{clash}
 use Rattle.std.specs.Option.{option_map}
-use Rattle.std.proofs.lemmas.List.{get_or-set_same, get_or_default, get_or-take, length-map, length-take-le, set-set, set-get_or, nil_from_length}
+use Rattle.std.proofs.lemmas.List.{get_or_default, get_or-take, length-map, length-take-le, set-get_or, nil_from_length}
 use Rattle.std.proofs.lemmas.Bool.{and_parts, and_right, not_from_true, eqb-true, leb-true}
 use Rattle.std.proofs.lemmas.List.Edits.{map_over_more}
 use Rattle.std.proofs.lemmas.List.Sums.{sum_by-drop_more}
@@ -12,28 +12,27 @@ use Rattle.common.specs.Search.{when_found}
 use Rattle.server.specs.declared.records.Tray.{Tray}
 use Rattle.server.specs.declared.records.Session.{Session}
 use Rattle.server.specs.Server.{Last, never, in_progress, kept, not_kept, SlotM, SessionM, ServerM, new_slot, slot_at, with_slot, with_open, is_working, is_bare, shuts, run_open, works_at}
-use Rattle.server.specs.Models.{standing_model, session_model, slot_in}
+use Rattle.server.specs.Models.{session_model, slot_in}
+use Rattle.server.proofs.Trays.{stood}
 use Rattle.server.specs.Places.{emptied, emptied_last, settled, change_in, change_at, at_slot, at_front, session_at, shut_at, works_in}
 
 abbrev pub with_places : ServerM → List (Option SessionM) → ServerM
 with_places m places = record { boot = m.boot; count = m.count; sessions = places }
 
-pub at_change : (places : List (Option SessionM)) (p : ℕ) (f : SessionM → SessionM) → p < length places → get_or (change_in places p f) p None ≡ option_map f (get_or places p None)
-at_change places p f h = get_or-set_same places p (option_map f (get_or places p None)) None h
+pub at_change : (places : List (Option SessionM)) (p : ℕ) (f : SessionM → SessionM) → get_or (change_in places p f) p None ≡ option_map f (get_or places p None)
+at_change [] p f = refl
+at_change (o ∷ os) zero f = refl
+at_change (o ∷ os) (suc p) f = at_change os p f
 
 pub some_mapped : (o : Option SessionM) (f : SessionM → SessionM) → is_some (option_map f o) ≡ is_some o
 some_mapped None f = refl
 some_mapped (Some s) f = refl
 
-pub change_twice : (places : List (Option SessionM)) (p : ℕ) (f g : SessionM → SessionM) → p < length places → change_in (change_in places p f) p g ≡ change_in places p (λ s. g (f s))
-change_twice places p f g h =
-    ap (λ o. set (change_in places p f) p (option_map g o)) (at_change places p f h)
-    ∙ set-set places p (option_map f (get_or places p None)) (option_map g (option_map f (get_or places p None)))
-    ∙ ap (set places p) (both (get_or places p None))
-  where
-    both : (o : Option SessionM) → option_map g (option_map f o) ≡ option_map (λ s. g (f s)) o
-    both None = refl
-    both (Some s) = refl
+pub change_twice : (places : List (Option SessionM)) (p : ℕ) (f g : SessionM → SessionM) → change_in (change_in places p f) p g ≡ change_in places p (λ s. g (f s))
+change_twice [] p f g = refl
+change_twice (None ∷ os) zero f g = refl
+change_twice (Some s ∷ os) zero f g = refl
+change_twice (o ∷ os) (suc p) f g = ap (λ ys. o ∷ ys) (change_twice os p f g)
 
 -- changes that agree on the session that is there
 pub change_same : (places : List (Option SessionM)) (p : ℕ) (f g : SessionM → SessionM) → ((s : SessionM) → get_or places p None ≡ Some s → f s ≡ g s) → change_in places p f ≡ change_in places p g
@@ -42,6 +41,10 @@ change_same places p f g h = ap (set places p) (go (get_or places p None) refl)
     go : (o : Option SessionM) → get_or places p None ≡ o → option_map f o ≡ option_map g o
     go None e = refl
     go (Some s) e = ap Some (h s e)
+
+-- a slot that is put, and is that slot changed
+pub put_is : (m n : ServerM) (p i : ℕ) (y : SlotM) (f : SlotM → SlotM) → ((s : SessionM) → get_or m.sessions p None ≡ Some s → y ≡ f (slot_at s i)) → n ≡ change_at m p (at_slot (λ _. y) i) → n ≡ change_at m p (at_slot f i)
+put_is m n p i y f h e = e ∙ ap (with_places m) (change_same m.sessions p (at_slot (λ _. y) i) (at_slot f i) (λ s k. ap (with_slot s i) (h s k)))
 
 -- a change that leaves it as it is
 pub change_none : (places : List (Option SessionM)) (p : ℕ) (f : SessionM → SessionM) → ((s : SessionM) → get_or places p None ≡ Some s → s ≡ f s) → places ≡ change_in places p f
@@ -52,14 +55,10 @@ change_none places p f h = sym (set-get_or places p None) ∙ ap (set places p) 
     go (Some s) e = ap Some (h s e)
 
 -- each session has sixteen slots
-pub sixteen : (ts : List Tray) (ss : List Session) (p : ℕ) (s : SessionM) → get_or (map (session_model ts) ss) p None ≡ Some s → length s.slots ≡ 16
-sixteen ts [] p s e = absurd (let z : ◌≡◌ {A = ℕ} 0 1 = cc in omega arith)
-sixteen ts (r ∷ rs) zero s e = go r.standing e
-  where
-    go : (b : Bool) → cond b (Some (standing_model ts r)) None ≡ Some s → length s.slots ≡ 16
-    go true k = let q : s ≡ standing_model ts r = cc in ap (λ (t : SessionM). length t.slots) q ∙ length-map r.slots (slot_in ts) ∙ r.whole
-    go false k = absurd (let z : ◌≡◌ {A = ℕ} 0 1 = cc in omega arith)
-sixteen ts (r ∷ rs) (suc p) s e = sixteen ts rs p s e
+pub sixteen : (ts : List Tray) (ss : List (Option Session)) (p : ℕ) (m : SessionM) → get_or (map (session_model ts) ss) p None ≡ Some m → length m.slots ≡ 16
+sixteen ts ss p m e =
+    let t = stood ts ss p m e in
+    ap (λ (n : SessionM). length n.slots) t.2 ∙ length-map t.0.slots (slot_in ts) ∙ t.0.whole
 
 -- the first slots, one more
 pub front_here : {X : Type 0} (f : X → X) (i : ℕ) (xs : List X) (d : X) → get_or (front_changed f i xs) i d ≡ get_or xs i d
@@ -93,18 +92,15 @@ shut_more s i n h k =
     flip false = refl
 
 -- a loop over the slots at a place: m before it, m' at slot i
-module _ (m m' : ServerM) (p i : ℕ) (f : SlotM → SlotM) (h : p < length m.sessions) (e : m' ≡ change_at m p (at_front f i)) where
+module _ (m m' : ServerM) (p i : ℕ) (f : SlotM → SlotM) (e : m' ≡ change_at m p (at_front f i)) where
   pub loop_session : session_at m' p ≡ option_map (at_front f i) (session_at m p)
-  loop_session = ap (λ n. session_at n p) e ∙ at_change m.sessions p (at_front f i) h
-
-  pub loop_stands : is_some (session_at m p) ≡ true → is_some (session_at m' p) ≡ true
-  loop_stands k = ap is_some loop_session ∙ some_mapped (session_at m p) (at_front f i) ∙ k
+  loop_session = ap (λ n. session_at n p) e ∙ at_change m.sessions p (at_front f i)
 
   pub loop_more : (n : ServerM) → ((s : SessionM) → session_at m p ≡ Some s → i < length s.slots) → n ≡ change_at m' p (at_slot f i) → n ≡ change_at m p (at_front f (i + 1))
   loop_more n k g =
       g
       ∙ ap (λ q. change_at q p (at_slot f i)) e
-      ∙ ap (with_places m) (change_twice m.sessions p (at_front f i) (at_slot f i) h ∙ change_same m.sessions p (λ s. at_slot f i (at_front f i s)) (at_front f (i + 1)) (λ s r. front_more f i s (k s r)))
+      ∙ ap (with_places m) (change_twice m.sessions p (at_front f i) (at_slot f i) ∙ change_same m.sessions p (λ s. at_slot f i (at_front f i s)) (at_front f (i + 1)) (λ s r. front_more f i s (k s r)))
 
   pub loop_shut : shut_at m' p i ≡ shut_at m p i
   loop_shut = ap (when_found 0 (λ s. lack (slot_at s i).is_open)) loop_session ∙ go (session_at m p)
@@ -112,9 +108,6 @@ module _ (m m' : ServerM) (p i : ℕ) (f : SlotM → SlotM) (h : p < length m.se
       go : (o : Option SessionM) → when_found 0 (λ s. lack (slot_at s i).is_open) (option_map (at_front f i) o) ≡ when_found 0 (λ s. lack (slot_at s i).is_open) o
       go None = refl
       go (Some s) = ap (λ (x : SlotM). lack x.is_open) (front_here f i s.slots new_slot)
-
-pub loop_none : (m : ServerM) (p : ℕ) (f : SlotM → SlotM) → m ≡ change_at m p (at_front f 0)
-loop_none m p f = ap (with_places m) (change_none m.sessions p (at_front f 0) (λ s e. refl))
 
 pub shut_left_more : (m : ServerM) (p i n : ℕ) → i < n → ((s : SessionM) → session_at m p ≡ Some s → n ≤ length s.slots) → shut_left m p i n ≡ shut_at m p i + shut_left m p (i + 1) n
 shut_left_more m p i n h k = go (session_at m p) k

@@ -1,29 +1,28 @@
 -- The session of an id, in the model.
-use Rattle.std.proofs.Common.{◌≡◌, ℕ, ◌<◌, ◌≤◌, Bool, true, false, cond, ◌&&◌, List, map, length, get_or, set, is_some, IfSome, Some, None, Ok, Err, Option, sym, refl, ap, ◌∙◌, arith}
+use Rattle.std.proofs.Common.{◌≡◌, ℕ, ◌<◌, Bool, true, false, cond, List, map, length, get_or, set, is_some, IfSome, Some, None, Ok, Err, Option, sym, refl, ap, ◌∙◌, arith}
 use borrow.Author.Tests.{clash}
-use Rattle.std.specs.Option.{option_map}
+use Rattle.std.specs.Option.{option_map, ok_or}
+use Rattle.std.specs.List.{position}
 use Rattle.service.specs.Service.{ServiceModel}
 use Rattle.common.specs.Search.{lowest_at, when_found}
 use Rattle.slots.proofs.Slots.{lowest_some, lowest_map}
-use Rattle.wire.specs.Wire.{SessionId, same_id, no_work, not_standing}
+use Rattle.wire.specs.Wire.{SessionId, Refusal, no_work, not_standing}
 use Rattle.wire.specs.Models.{id_model}
 use Rattle.wire.specs.declared.messages.SessionId.{SessionId as CodeId}
 use Rattle.server.specs.declared.records.Tray.{Tray}
 use Rattle.server.specs.declared.records.Session.{Session}
 use Rattle.server.specs.Server.{SessionM, ServerM, Work, has_id, place_of, session_of, with_session, works_at, is_in_hand, run_slot, run_work, resume_work, set_work_aside}
-use Rattle.server.specs.Models.{standing_model, session_model, bears}
+use Rattle.server.specs.Models.{session_model, bears}
 use Rattle.server.specs.Places.{session_at, change_at}
+use Rattle.server.proofs.Trays.{lowest_position}
 use Rattle.server.proofs.Changes.{with_places}
 
-pub find_is : (ts : List Tray) (ss : List Session) (id : CodeId) → lowest_at (bears id) ss 0 ≡ lowest_at (has_id (id_model id)) (map (session_model ts) ss) 0
-find_is ts ss id = ap (λ f. lowest_at f ss 0) (λ i s. same s i) ∙ sym (lowest_map (has_id (id_model id)) (session_model ts) ss 0)
+pub find_is : (ts : List Tray) (ss : List (Option Session)) (id : CodeId) → position (bears id) ss ≡ lowest_at (has_id (id_model id)) (map (session_model ts) ss) 0
+find_is ts ss id = lowest_position (bears id) ss ∙ ap (λ f. lowest_at f ss 0) (λ i o. same o i) ∙ sym (lowest_map (has_id (id_model id)) (session_model ts) ss 0)
   where
-    go : (b : Bool) (s : Session) → (b && same_id (id_model s.id) (id_model id)) ≡ has_id (id_model id) (cond b (Some (standing_model ts s)) None)
-    go true s = refl
-    go false s = refl
-
-    same : (s : Session) → bears id s ≡ has_id (id_model id) (session_model ts s)
-    same s = go s.standing s
+    same : (o : Option Session) → bears id o ≡ has_id (id_model id) (session_model ts o)
+    same None = refl
+    same (Some s) = refl
 
 -- what is found stands
 pub found : (m : ServerM) (id : SessionId) (o : Option ℕ) → o ≡ place_of m id → IfSome o (λ p. (p < length m.sessions) × (is_some (session_at m p) ≡ true))
@@ -37,13 +36,39 @@ found m id (Some p) e =
     some None h = absurd (clash h)
     some (Some s) h = refl
 
-pub found_low : (m : ServerM) (id : SessionId) (n : ℕ) (o : Option ℕ) → o ≡ place_of m id → length m.sessions ≤ n → IfSome o (λ p. p < n)
-found_low m id n None e h = tt
-found_low m id n (Some p) e h = let l = found m id (Some p) e in omega arith
+pub found_stands : (m : ServerM) (id : SessionId) (p : ℕ) → place_of m id ≡ Some p → is_some (session_at m p) ≡ true
+found_stands m id p e = (found m id (Some p) (sym e)).1
 
-pub found_stands : (m : ServerM) (id : SessionId) (o : Option ℕ) → o ≡ place_of m id → IfSome o (λ p. is_some (session_at m p) ≡ true)
-found_stands m id None e = tt
-found_stands m id (Some p) e = (found m id (Some p) e).1
+-- what `ok_or` made of an option
+pub ok_from : {X E : Type 0} (o : Option X) (e : E) (x : X) → Ok x ≡ ok_or o e → o ≡ Some x
+ok_from None e x h = absurd (let z : ◌≡◌ {A = ℕ} 0 1 = cc in omega arith)
+ok_from (Some y) e x h = let q : y ≡ x = cc in ap Some q
+
+pub err_from : {X E : Type 0} (o : Option X) (e d : E) → Err d ≡ ok_or o e → (o ≡ None) × (d ≡ e)
+err_from None e d h = (refl, cc)
+err_from (Some y) e d h = absurd (let z : ◌≡◌ {A = ℕ} 0 1 = cc in omega arith)
+
+-- an option by a test
+pub passed : {X : Type 0} (b : Bool) (x y : X) → cond b (Some x) None ≡ Some y → (b ≡ true) × (y ≡ x)
+passed true x y h = (refl, cc)
+passed false x y h = absurd (let z : ◌≡◌ {A = ℕ} 0 1 = cc in omega arith)
+
+pub failed : {X : Type 0} (b : Bool) (x : X) → cond b (Some x) None ≡ None → b ≡ false
+failed true x h = absurd (let z : ◌≡◌ {A = ℕ} 0 1 = cc in omega arith)
+failed false x h = refl
+
+-- a work order that is refused
+refused_by : {X Y : Type 0} (b : Bool) (x : X) (y : Y) (d e : Refusal) → cond b (Ok x) (Err d) ≡ Err e → cond b (Ok y) (Err d) ≡ Err e
+refused_by true x y d e r = absurd (let z : ◌≡◌ {A = ℕ} 0 1 = cc in omega arith)
+refused_by false x y d e r = let q : d ≡ e = cc in ap Err q
+
+pub run_refused : (S : ServiceModel) (k : S.Content) (m : ServerM) (w : Work) (e : Refusal) → set_work_aside m w ≡ Err e → run_work S k m w ≡ Err e
+unfolding set_work_aside run_work
+run_refused S k m w e h = go (session_of m w.id) h
+  where
+    go : (o : Option SessionM) → when_found (Err no_work) (λ s. cond (is_in_hand s w) (Ok (tt {0})) (Err no_work)) o ≡ Err e → when_found (Err no_work) (λ s. cond (is_in_hand s w) (Ok (run_slot S k m w.id w.slot s)) (Err no_work)) o ≡ Err e
+    go None r = let q : no_work ≡ e = cc in ap Err q
+    go (Some s) r = refused_by (is_in_hand s w) (tt {0}) (run_slot S k m w.id w.slot s) no_work e r
 
 -- the session of an id, where it was found, and where it was not
 pub session_none : (m : ServerM) (id : SessionId) → place_of m id ≡ None → session_of m id ≡ None
@@ -63,10 +88,6 @@ changed_found m id p s f e k = ap (λ o. with_places m (set m.sessions p (option
 
 -- what the calls make of it
 module _ (S : ServiceModel) (k : S.Content) (m : ServerM) where
-  pub run_none : (w : Work) → place_of m w.id ≡ None → run_work S k m w ≡ Err no_work
-  unfolding run_work
-  run_none w e = ap (when_found (Err no_work) (λ s. cond (is_in_hand s w) (Ok (run_slot S k m w.id w.slot s)) (Err no_work))) (session_none m w.id e)
-
   pub resume_none : (id : SessionId) (slot : ℕ) → place_of m id ≡ None → resume_work S k m id slot ≡ Err not_standing
   unfolding resume_work
   resume_none id slot e = ap (when_found (Err not_standing) (λ s. cond (works_at s slot) (Ok (run_slot S k m id slot s)) (Err no_work))) (session_none m id e)

@@ -4,7 +4,6 @@ pub mod Found
 pub mod Changes
 pub mod Runs
 pub mod Opened
-pub mod Fitting
 pub mod Worked
 pub mod Manned
 pub mod Repeated

@@ -1,344 +1,282 @@
 -- One slot at one place: what its change does to the marks of the trays, to their count, and to the model.
-use Rattle.std.proofs.Common.{◌≡◌, ℕ, zero, suc, ◌+◌, ◌-◌, ◌<◌, Bool, true, false, cond, ◌⊎◌, List, [], ◌∷◌, map, length, get_or, set, replicate, is_some, Some, None, sum_by, count_by, Option, sym, refl, ap, ◌∙◌, inl, inr, ⊎_elim, arith}
+use Rattle.std.proofs.Common.{◌≡◌, ℕ, zero, suc, ◌+◌, ◌-◌, ◌<◌, Bool, true, false, cond, not, List, [], ◌∷◌, map, length, get_or, set, is_some, Some, None, sum_by, count_by, Option, sym, refl, ap, ◌∙◌, ⊎_elim, arith}
 use borrow.Author.Tests.{clash}
 use Rattle.std.specs.Option.{option_map}
-use Rattle.std.specs.List.{slice_get}
-use Rattle.std.proofs.lemmas.List.{get_or-map, get_or_default, get_or-set_same, get_or-set_other}
-use Rattle.std.proofs.lemmas.List.Sums.{sum_by-set, sum_by-cons}
-use Rattle.std.proofs.lemmas.Bool.{cond-true, cond-false, cases_eq}
 use Rattle.common.specs.Search.{when_found, lowest_at}
-use Rattle.wire.specs.Wire.{Request}
+use Rattle.std.specs.List.{position, position_from}
+use Rattle.std.proofs.lemmas.Iterator.Adapters.{position_from-zero}
+use Rattle.std.proofs.Math.ListN.{get_or-map, get_or-eq_default}
+use Rattle.std.proofs.lemmas.List.{get_or-set_same, get_or-set_other, get_or_default}
+use Rattle.std.proofs.lemmas.List.Sums.{sum_by-set, sum_by-cons}
+use Rattle.std.proofs.lemmas.Bool.{cases_eq}
 use Rattle.wire.specs.Models.{id_model}
+use Rattle.server.specs.declared.records.Spot.{Spot}
 use Rattle.server.specs.declared.records.Tray.{Tray}
-use Rattle.server.specs.declared.records.Owner.{Owner}
 use Rattle.server.specs.declared.records.Slot.{Slot}
 use Rattle.server.specs.declared.records.Session.{Session}
 use Rattle.server.specs.declared.state.Server.{Server}
-use Rattle.server.specs.Server.{SlotM, SessionM, new_slot, slot_at, open_slots, free_trays, new}
-use Rattle.server.specs.Trays.{tray_held, tray_in, tray_of, owner, Marked, is_free, slots_open, stands_in, shut_in}
-use Rattle.server.specs.Models.{no_tray, slot_model, slot_in, standing_model, session_model, model}
-use Rattle.server.specs.Places.{change_in, at_slot, verdict_at}
-use Rattle.server.proofs.Slots.{same_shut, new_at}
-
--- an element that is there is within, and the one that `get_or` gives
-pub nth_within : {X : Type 0} (xs : List X) (i : ℕ) (x : X) → slice_get xs i ≡ Some x → i < length xs
-nth_within [] i x e = absurd (let z : ◌≡◌ {A = ℕ} 0 1 = cc in omega arith)
-nth_within (y ∷ ys) zero x e = omega arith
-nth_within (y ∷ ys) (suc i) x e = let h = nth_within ys i x e in omega arith
-
-pub nth_is : {X : Type 0} (xs : List X) (i : ℕ) (x d : X) → slice_get xs i ≡ Some x → get_or xs i d ≡ x
-nth_is [] i x d e = absurd (let z : ◌≡◌ {A = ℕ} 0 1 = cc in omega arith)
-nth_is (y ∷ ys) zero x d e = cc
-nth_is (y ∷ ys) (suc i) x d e = nth_is ys i x d e
-
-pub nth_set_same : {X : Type 0} (xs : List X) (i : ℕ) (y : X) → i < length xs → slice_get (set xs i y) i ≡ Some y
-nth_set_same [] i y h = absurd (omega arith)
-nth_set_same (x ∷ xs) zero y h = refl
-nth_set_same (x ∷ xs) (suc i) y h = nth_set_same xs i y (omega arith)
-
-pub nth_set_other : {X : Type 0} (xs : List X) (i j : ℕ) (y : X) → (j ≡ i → ⊥) → slice_get (set xs i y) j ≡ slice_get xs j
-nth_set_other [] i j y n = refl
-nth_set_other (x ∷ xs) zero zero y n = absurd (n refl)
-nth_set_other (x ∷ xs) zero (suc j) y n = refl
-nth_set_other (x ∷ xs) (suc i) zero y n = refl
-nth_set_other (x ∷ xs) (suc i) (suc j) y n = nth_set_other xs i j y (λ e. n (ap suc e))
-
-pub set_nth : {X : Type 0} (xs : List X) (i : ℕ) (x : X) → slice_get xs i ≡ Some x → set xs i x ≡ xs
-set_nth [] i x e = refl
-set_nth (y ∷ ys) zero x e = let h : x ≡ y = cc in ap (λ z. z ∷ ys) h
-set_nth (y ∷ ys) (suc i) x e = ap (λ zs. y ∷ zs) (set_nth ys i x e)
-
-pub standing_of : (ss : List Session) (p : ℕ) (s : Session) → slice_get ss p ≡ Some s → stands_in ss p ≡ true → s.standing ≡ true
-standing_of ss p s h e = sym (ap (λ o. when_found false (λ (r : Session). r.standing) o) h) ∙ e
-
--- two functions that agree on a list, or on all of it but one element
-pub map_same : {X Y : Type 0} (f g : X → Y) (xs : List X) → ((j : ℕ) (x : X) → slice_get xs j ≡ Some x → f x ≡ g x) → map f xs ≡ map g xs
-map_same f g [] h = refl
-map_same f g (x ∷ xs) h = (λ i. h 0 x refl i ∷ map_same f g xs (λ j. h (suc j)) i)
-
-pub map_apart : {X Y : Type 0} (f g : X → Y) (xs : List X) (p : ℕ) (y : X) (z : Y) → f y ≡ z → ((j : ℕ) (x : X) → slice_get xs j ≡ Some x → (j ≡ p → ⊥) → f x ≡ g x) → map f (set xs p y) ≡ set (map g xs) p z
-map_apart f g [] p y z e h = refl
-map_apart f g (x ∷ xs) zero y z e h = (λ i. e i ∷ map_same f g xs (λ j w k. h (suc j) w k (λ n. absurd (omega arith))) i)
-map_apart f g (x ∷ xs) (suc p) y z e h = (λ i. h 0 x refl (λ n. absurd (omega arith)) i ∷ map_apart f g xs p y z e (λ j w k n. h (suc j) w k (λ m. n (omega arith))) i)
+use Rattle.server.specs.Server.{SlotM, SessionM, slot_at, open_slots, free_trays}
+use Rattle.server.specs.Trays.{no_tray, tray_at, no_slot, tray_in, tray_of, spot, Marked, is_free, slots_open, Owned, shut_in}
+use Rattle.server.specs.Models.{slot_model, slot_in, standing_model, session_model, model}
+use Rattle.server.specs.Places.{change_in, at_slot}
 
 -- one, if a test holds
-abbrev one : Bool → ℕ
+abbrev pub one : Bool → ℕ
 one b = cond b 1 0
 
--- one, if it does not
-abbrev lack : Bool → ℕ
-lack b = cond b 0 1
+-- a session that is there is within
+pub within : {X : Type 0} (xs : List (Option X)) (i : ℕ) (x : X) → get_or xs i None ≡ Some x → i < length xs
+within [] i x e = absurd (let z : ◌≡◌ {A = ℕ} 0 1 = cc in omega arith)
+within (y ∷ ys) zero x e = omega arith
+within (y ∷ ys) (suc i) x e = let h = within ys i x e in omega arith
 
--- a test that holds nowhere counts nothing
-pub none_lowest : {X : Type 0} (test : X → Bool) (xs : List X) (k : ℕ) → lowest_at test xs k ≡ None → count_by test xs ≡ 0
-none_lowest test [] k e = refl
-none_lowest test (x ∷ xs) k e = go (test x) refl (none_lowest test xs (k + 1)) e
-  where
-    go : (b : Bool) → test x ≡ b → (lowest_at test xs (k + 1) ≡ None → count_by test xs ≡ 0) → cond b (Some k) (lowest_at test xs (k + 1)) ≡ None → count_by test (x ∷ xs) ≡ 0
-    go true h rest e = absurd (let z : ◌≡◌ {A = ℕ} 0 1 = cc in omega arith)
-    go false h rest e =
-        let a : one (test x) ≡ 0 = ap one h in
-        let b : count_by test xs ≡ 0 = rest e in
-        sum_by-cons (λ y. one (test y)) x xs ∙ omega (arith, a, b)
+-- two functions that agree on a list, or on all of it but one element
+pub map_same : {X Y : Type 0} (f g : X → Y) (xs : List X) (d : X) → ((j : ℕ) → f (get_or xs j d) ≡ g (get_or xs j d)) → map f xs ≡ map g xs
+map_same f g [] d h = refl
+map_same f g (x ∷ xs) d h = (λ i. h 0 i ∷ map_same f g xs d (λ j. h (suc j)) i)
 
-pub free_none : (o : Option Owner) → is_free o ≡ true → o ≡ None
-free_none None e = refl
-free_none (Some o) e = absurd (let z : ◌≡◌ {A = Bool} false true = e in clash z)
+pub map_apart : {X Y : Type 0} (f g : X → Y) (xs : List X) (p : ℕ) (y d : X) (z : Y) → f y ≡ z → ((j : ℕ) → (j ≡ p → ⊥) → f (get_or xs j d) ≡ g (get_or xs j d)) → map f (set xs p y) ≡ set (map g xs) p z
+map_apart f g [] p y d z e h = refl
+map_apart f g (x ∷ xs) zero y d z e h = (λ i. e i ∷ map_same f g xs d (λ j. h (suc j) (λ n. absurd (omega arith))) i)
+map_apart f g (x ∷ xs) (suc p) y d z e h = (λ i. h 0 (λ n. absurd (omega arith)) i ∷ map_apart f g xs p y d z e (λ j n. h (suc j) (λ m. n (omega arith))) i)
 
 pub sum_map_is : {X Y : Type 0} (f : Y → ℕ) (g : X → Y) (xs : List X) → sum_by f (map g xs) ≡ sum_by (λ x. f (g x)) xs
 sum_map_is f g [] = refl
 sum_map_is f g (x ∷ xs) = sum_by-cons f (g x) (map g xs) ∙ ap (λ n. f (g x) + n) (sum_map_is f g xs) ∙ sym (sum_by-cons (λ y. f (g y)) x xs)
 
--- a list of one thing
-pub count_none : {X : Type 0} (test : X → Bool) (x : X) (n : ℕ) → test x ≡ false → count_by test (replicate n x) ≡ 0
-count_none test x zero e = refl
-count_none test x (suc n) e =
-    let a : one (test x) ≡ 0 = ap one e in
-    let b : count_by test (replicate n x) ≡ 0 = count_none test x n e in
-    sum_by-cons (λ y. one (test y)) x (replicate n x) ∙ omega (arith, a, b)
+-- a search for the first that passes
+pub lowest_position : {X : Type 0} (test : X → Bool) (xs : List X) → position test xs ≡ lowest_at test xs 0
+lowest_position test xs = position_from-zero test xs
 
-pub held_none : (x : Slot) (n i : ℕ) → tray_held x ≡ None → when_found None tray_held (slice_get (replicate n x) i) ≡ None
-held_none x zero i e = refl
-held_none x (suc n) zero e = e
-held_none x (suc n) (suc i) e = held_none x n i e
+-- a test that holds nowhere counts nothing
+none_first : {X : Type 0} (test : X → Bool) (y : X) (ys : List X) (i : ℕ) (b : Bool) → test y ≡ b → (position_from test (i + 1) ys ≡ None → count_by test ys ≡ 0) → cond b (Some i) (position_from test (i + 1) ys) ≡ None → count_by test (y ∷ ys) ≡ 0
+none_first test y ys i true q rest r = absurd (let z : ◌≡◌ {A = ℕ} 0 1 = cc in omega arith)
+none_first test y ys i false q rest r =
+    let a : one (test y) ≡ 0 = ap one q in
+    let b : count_by test ys ≡ 0 = rest r in
+    sum_by-cons (λ z. one (test z)) y ys ∙ omega (arith, a, b)
 
--- slot i of the session s at place p changes from x to x'
-module _ (ss : List Session) (p i : ℕ) (s s' : Session) (x x' : Slot) (hs : slice_get ss p ≡ Some s) (hx : slice_get s.slots i ≡ Some x) (st : s.standing ≡ true) (slots : s'.slots ≡ set s.slots i x') (st' : s'.standing ≡ s.standing) where
-  -- a slot's tray afterwards is the tray of this slot, or was that slot's tray before
-  moved : (j n k : ℕ) → tray_of (set ss p s') j n ≡ Some k → ((j ≡ p) × (n ≡ i) × (tray_held x' ≡ Some k)) ⊎ ((j ≡ p → n ≡ i → ⊥) × (tray_of ss j n ≡ Some k))
-  moved j n k e = ⊎_elim here there (cases_eq j p)
-    where
-      there : (j ≡ p → ⊥) → ((j ≡ p) × (n ≡ i) × (tray_held x' ≡ Some k)) ⊎ ((j ≡ p → n ≡ i → ⊥) × (tray_of ss j n ≡ Some k))
-      there ne = inr ((λ q _. ne q), sym (ap (λ o. when_found None (λ r. tray_in r n) o) (nth_set_other ss p j s' ne)) ∙ e)
-
-      in_session : j ≡ p → tray_in s' n ≡ Some k
-      in_session q = sym (ap (λ o. when_found None (λ r. tray_in r n) o) (ap (slice_get (set ss p s')) q ∙ nth_set_same ss p s' (nth_within ss p s hs))) ∙ e
-
-      in_slots : j ≡ p → when_found None tray_held (slice_get (set s.slots i x') n) ≡ Some k
-      in_slots q = sym (cond-true _ _ _ (st' ∙ st) ∙ ap (λ xs. when_found None tray_held (slice_get xs n)) slots) ∙ in_session q
-
-      here : j ≡ p → ((j ≡ p) × (n ≡ i) × (tray_held x' ≡ Some k)) ⊎ ((j ≡ p → n ≡ i → ⊥) × (tray_of ss j n ≡ Some k))
-      here q = ⊎_elim
-          (λ m. inl (q, m, sym (ap (when_found None tray_held) (ap (slice_get (set s.slots i x')) m ∙ nth_set_same s.slots i x' (nth_within s.slots i x hx))) ∙ in_slots q))
-          (λ m. inr ((λ _ r. m r), (ap (λ o. when_found None (λ r. tray_in r n) o) (ap (slice_get ss) q ∙ hs) ∙ cond-true _ _ _ st ∙ sym (ap (when_found None tray_held) (nth_set_other s.slots i n x' m)) ∙ in_slots q)))
-          (cases_eq n i)
-
-  was : tray_of ss p i ≡ tray_held x
-  was = ap (λ o. when_found None (λ r. tray_in r i) o) hs ∙ cond-true _ _ _ st ∙ ap (when_found None tray_held) hx
-
-  pub marked_freed : (os : List (Option Owner)) → Marked ss os → x.live ≡ true → x'.live ≡ false → Marked (set ss p s') (set os x.tray None)
-  marked_freed os m l l' j n k e = ⊎_elim
-      (λ h. absurd (let a : None ≡ Some k = sym (cond-false x'.live (Some x'.tray) None l') ∙ h.2 in let z : ◌≡◌ {A = ℕ} 0 1 = cc in omega arith))
-      (λ h. let o = m j n k h.1 in
-      let o' : get_or os x.tray None ≡ Some (owner p i) = m p i x.tray (was ∙ cond-true _ _ _ l) in
-      let apart : k ≡ x.tray → ⊥ = λ q. (let w : Some (owner j n) ≡ Some (owner p i) = sym o ∙ ap (λ t. get_or os t None) q ∙ o' in let v : owner j n ≡ owner p i = cc in h.0 (ap (λ (u : Owner). u.place) v) (ap (λ (u : Owner). u.slot) v)) in
-      get_or-set_other os x.tray k None None apart ∙ o)
-      (moved j n k e)
-
-  pub marked_opened : (os : List (Option Owner)) → Marked ss os → x'.live ≡ true → x'.tray < length os → get_or os x'.tray None ≡ None → Marked (set ss p s') (set os x'.tray (Some (owner p i)))
-  marked_opened os m l' h f j n k e = ⊎_elim
-      (λ r. let a : Some x'.tray ≡ Some k = sym (cond-true x'.live (Some x'.tray) None l') ∙ r.2 in
-      let b : k ≡ x'.tray = cc in
-      ap (λ t. get_or (set os x'.tray (Some (owner p i))) t None) b ∙ get_or-set_same os x'.tray (Some (owner p i)) None h ∙ ap Some (λ u. owner (sym r.0 u) (sym r.1 u)))
-      (λ r. let o = m j n k r.1 in
-      let apart : k ≡ x'.tray → ⊥ = λ q. (let w : Some (owner j n) ≡ None = sym o ∙ ap (λ t. get_or os t None) q ∙ f in let z : ◌≡◌ {A = ℕ} 0 1 = cc in omega arith) in
-      get_or-set_other os x'.tray k (Some (owner p i)) None apart ∙ o)
-      (moved j n k e)
-
-  pub marked_kept : (os : List (Option Owner)) → Marked ss os → x'.live ≡ x.live → x'.tray ≡ x.tray → Marked (set ss p s') os
-  marked_kept os m l t j n k e = ⊎_elim
-      (λ r. let same : tray_held x' ≡ tray_held x = (λ u. cond (l u) (Some (t u)) None) in
-      m p i k (was ∙ sym same ∙ r.2) ∙ ap Some (λ u. owner (sym r.0 u) (sym r.1 u)))
-      (λ r. m j n k r.1)
-      (moved j n k e)
-
-  -- another open slot has another tray
-  apart : (os : List (Option Owner)) → Marked ss os → x.live ≡ true → (j n : ℕ) (r : Session) (y : Slot) → slice_get ss j ≡ Some r → r.standing ≡ true → slice_get r.slots n ≡ Some y → (j ≡ p → n ≡ i → ⊥) → y.live ≡ true → y.tray ≡ x.tray → ⊥
-  apart os m l j n r y hr st_r hy ne l_y e =
-      let o = m j n y.tray (ap (λ q. when_found None (λ u. tray_in u n) q) hr ∙ cond-true _ _ _ st_r ∙ ap (when_found None tray_held) hy ∙ cond-true _ _ _ l_y) in
-      let o' = m p i x.tray (was ∙ cond-true _ _ _ l) in
-      let w : Some (owner j n) ≡ Some (owner p i) = sym o ∙ ap (λ t. get_or os t None) e ∙ o' in
-      let v : owner j n ≡ owner p i = cc in
-      ne (ap (λ (u : Owner). u.place) v) (ap (λ (u : Owner). u.slot) v)
-
-  -- the open slots
-  open_sum : sum_by slots_open (set ss p s') + one x.live ≡ sum_by slots_open ss + one x'.live
-  open_sum =
-      let a = sum_by-set slots_open ss p s' s (nth_within ss p s hs) in
-      let a' : slots_open (get_or ss p s) ≡ slots_open s = ap slots_open (nth_is ss p s s hs) in
-      let live : Slot → Bool = λ y. y.live in
-      let b : count_by live (set s.slots i x') + one (get_or s.slots i x).live ≡ count_by live s.slots + one x'.live = sum_by-set (λ y. one (live y)) s.slots i x' x (nth_within s.slots i x hx) in
-      let b' : one (get_or s.slots i x).live ≡ one x.live = ap (λ (y : Slot). one y.live) (nth_is s.slots i x x hx) in
-      let c : slots_open s ≡ count_by live s.slots = cond-true _ _ _ st in
-      let c' : slots_open s' ≡ count_by live (set s.slots i x') = cond-true _ _ _ (st' ∙ st) ∙ ap (count_by live) slots in
-      omega arith
-
-  pub counted_kept : (os : List (Option Owner)) → count_by is_free os + sum_by slots_open ss ≡ 64 → x'.live ≡ x.live → count_by is_free os + sum_by slots_open (set ss p s') ≡ 64
-  counted_kept os h l = let a = open_sum in let b : one x'.live ≡ one x.live = ap one l in omega arith
-
-  pub counted_freed : (os : List (Option Owner)) → count_by is_free os + sum_by slots_open ss ≡ 64 → Marked ss os → x.live ≡ true → x'.live ≡ false → x.tray < length os → count_by is_free (set os x.tray None) + sum_by slots_open (set ss p s') ≡ 64
-  counted_freed os h m l l' k =
-      let a = open_sum in
-      let b : one x.live ≡ 1 = ap one l in
-      let b' : one x'.live ≡ 0 = ap one l' in
-      let o : get_or os x.tray None ≡ Some (owner p i) = m p i x.tray (was ∙ cond-true _ _ _ l) in
-      let f : count_by is_free (set os x.tray None) + one (is_free (get_or os x.tray None)) ≡ count_by is_free os + 1 = sum_by-set (λ q. one (is_free q)) os x.tray None None k in
-      let g : one (is_free (get_or os x.tray None)) ≡ 0 = ap (λ q. one (is_free q)) o in
-      omega arith
-
-  pub free_opened : (os : List (Option Owner)) (q : Owner) → get_or os x'.tray None ≡ None → x'.tray < length os → count_by is_free (set os x'.tray (Some q)) + 1 ≡ count_by is_free os
-  free_opened os q o k =
-      let f : count_by is_free (set os x'.tray (Some q)) + one (is_free (get_or os x'.tray None)) ≡ count_by is_free os + 0 = sum_by-set (λ r. one (is_free r)) os x'.tray (Some q) None k in
-      let g : one (is_free (get_or os x'.tray None)) ≡ 1 = ap (λ r. one (is_free r)) o in
-      omega arith
-
-  pub counted_opened : (os : List (Option Owner)) (q : Owner) → count_by is_free os + sum_by slots_open ss ≡ 64 → x.live ≡ false → x'.live ≡ true → get_or os x'.tray None ≡ None → x'.tray < length os → count_by is_free (set os x'.tray (Some q)) + sum_by slots_open (set ss p s') ≡ 64
-  counted_opened os q h l l' o k =
-      let a = open_sum in
-      let b : one x.live ≡ 0 = ap one l in
-      let b' : one x'.live ≡ 1 = ap one l' in
-      let f = free_opened os q o k in
-      omega arith
-
-  -- the model, where the bytes of no other open slot change
-  module _ (ts us : List Tray) (id : s'.id ≡ s.id) (target : s'.target ≡ s.target) (f : SlotM → SlotM) (e : slot_in us x' ≡ f (slot_in ts x)) (frame : (j n : ℕ) (r : Session) (y : Slot) → slice_get ss j ≡ Some r → r.standing ≡ true → slice_get r.slots n ≡ Some y → (j ≡ p → n ≡ i → ⊥) → slot_in us y ≡ slot_in ts y) where
-    slot_then : slot_at (standing_model ts s) i ≡ slot_in ts x
-    slot_then = get_or-map (slot_in ts) s.slots i x new_slot (nth_within s.slots i x hx) ∙ ap (slot_in ts) (nth_is s.slots i x x hx)
-
-    slots_then : map (slot_in us) s'.slots ≡ set (map (slot_in ts) s.slots) i (f (slot_at (standing_model ts s) i))
-    slots_then =
-        ap (map (slot_in us)) slots
-        ∙ map_apart (slot_in us) (slot_in ts) s.slots i x' (f (slot_at (standing_model ts s) i)) (e ∙ sym (ap f slot_then)) (λ n y h ne. frame p n s y hs st h (λ _ q. ne q))
-
-    session_then : session_model us s' ≡ option_map (at_slot f i) (get_or (map (session_model ts) ss) p None)
-    session_then =
-        cond-true _ _ _ (st' ∙ st)
-        ∙ (λ u. Some (record { id = id_model (id u); target = target u; slots = slots_then u }))
-        ∙ sym (ap (option_map (at_slot f i)) (get_or-map (session_model ts) ss p s None (nth_within ss p s hs) ∙ ap (session_model ts) (nth_is ss p s s hs) ∙ cond-true _ _ _ st))
-
-    other : (j : ℕ) (r : Session) → slice_get ss j ≡ Some r → (j ≡ p → ⊥) → session_model us r ≡ session_model ts r
-    other j r h ne = go r.standing refl
-      where
-        go : (b : Bool) → r.standing ≡ b → session_model us r ≡ session_model ts r
-        go false g = cond-false _ _ _ g ∙ sym (cond-false _ _ _ g)
-        go true g =
-            cond-true _ _ _ g
-            ∙ (λ u. Some (record { id = id_model r.id; target = r.target; slots = map_same (slot_in us) (slot_in ts) r.slots (λ n y k. frame j n r y h g k (λ q _. ne q)) u }))
-            ∙ sym (cond-true _ _ _ g)
-
-    pub placed : map (session_model us) (set ss p s') ≡ change_in (map (session_model ts) ss) p (at_slot f i)
-    placed = map_apart (session_model us) (session_model ts) ss p s' (option_map (at_slot f i) (get_or (map (session_model ts) ss) p None)) session_then other
-
--- a change that leaves a slot as it is
-pub unplaced : (ts : List Tray) (ss : List Session) (p i : ℕ) (s : Session) (x : Slot) (f : SlotM → SlotM) → slice_get ss p ≡ Some s → slice_get s.slots i ≡ Some x → s.standing ≡ true → slot_in ts x ≡ f (slot_in ts x) → map (session_model ts) ss ≡ change_in (map (session_model ts) ss) p (at_slot f i)
-unplaced ts ss p i s x f hs hx st e =
-    sym (ap (map (session_model ts)) (set_nth ss p s hs))
-    ∙ placed ss p i s s x x hs hx st (sym (set_nth s.slots i x hx)) refl ts ts refl refl f e (λ j n r y a b c d. refl)
-
-module _ (ss : List Session) (p i : ℕ) (s : Session) (x : Slot) (hs : slice_get ss p ≡ Some s) (hx : slice_get s.slots i ≡ Some x) where
-  pub shut_is : shut_in ss p i ≡ cond x.live 0 1
-  shut_is =
-      ap (λ o. when_found 0 (λ (r : Session). when_found 0 (λ (y : Slot). cond y.live 0 1) (slice_get r.slots i)) o) hs
-      ∙ ap (λ o. when_found 0 (λ (y : Slot). cond y.live 0 1) o) hx
-
-  pub shut_one : x.live ≡ false → shut_in ss p i ≡ 1
-  shut_one l = shut_is ∙ cond-false _ _ _ l
-
-  pub shut_none : x.live ≡ true → shut_in ss p i ≡ 0
-  shut_none l = shut_is ∙ cond-true _ _ _ l
-
--- the place, as the model has it
-module _ (ts : List Tray) (ss : List Session) (p : ℕ) (s : Session) (hs : slice_get ss p ≡ Some s) where
-  pub session_here : get_or (map (session_model ts) ss) p None ≡ session_model ts s
-  session_here = get_or-map (session_model ts) ss p s None (nth_within ss p s hs) ∙ ap (session_model ts) (nth_is ss p s s hs)
-
-  pub stands_here : is_some (get_or (map (session_model ts) ss) p None) ≡ true → s.standing ≡ true
-  stands_here e = go s.standing refl (sym (ap is_some session_here) ∙ e)
-    where
-      go : (b : Bool) → s.standing ≡ b → is_some (cond b (Some (standing_model ts s)) None) ≡ true → s.standing ≡ true
-      go true h k = h
-      go false h k = absurd (clash k)
-
-pub stands_raw : (ts : List Tray) (ss : List Session) (p : ℕ) → is_some (get_or (map (session_model ts) ss) p None) ≡ true → stands_in ss p ≡ true
-stands_raw ts [] p e = absurd (clash e)
-stands_raw ts (s ∷ ss) zero e = stands_here ts (s ∷ ss) 0 s refl e
-stands_raw ts (s ∷ ss) (suc p) e = stands_raw ts ss p e
-
-pub shut_slot : (ts : List Tray) (xs : List Slot) (i : ℕ) → i < length xs → lack (get_or (map (slot_in ts) xs) i new_slot).is_open ≡ when_found 0 (λ (x : Slot). lack x.live) (slice_get xs i)
-shut_slot ts [] i h = absurd (omega arith)
-shut_slot ts (x ∷ xs) zero h = refl
-shut_slot ts (x ∷ xs) (suc i) h = shut_slot ts xs i (omega arith)
-
-pub shut_raw : (ts : List Tray) (ss : List Session) (p i : ℕ) → i < 16 → is_some (get_or (map (session_model ts) ss) p None) ≡ true → when_found 0 (λ s. lack (slot_at s i).is_open) (get_or (map (session_model ts) ss) p None) ≡ shut_in ss p i
-shut_raw ts [] p i h e = absurd (clash e)
-shut_raw ts (s ∷ ss) zero i h e = go s.standing e
+pub none_pass : {X : Type 0} (test : X → Bool) (xs : List X) → position test xs ≡ None → count_by test xs ≡ 0
+none_pass {X = X} test xs e = none xs 0 (sym (position_from-zero test xs) ∙ e)
   where
-    go : (b : Bool) → is_some (cond b (Some (standing_model ts s)) None) ≡ true → when_found 0 (λ r. lack (slot_at r i).is_open) (cond b (Some (standing_model ts s)) None) ≡ when_found 0 (λ (x : Slot). lack x.live) (slice_get s.slots i)
-    go true k = shut_slot ts s.slots i (omega (arith, s.whole))
-    go false k = absurd (clash k)
-shut_raw ts (s ∷ ss) (suc p) i h e = shut_raw ts ss p i h e
+    none : (ys : List X) (i : ℕ) → position_from test i ys ≡ None → count_by test ys ≡ 0
+    none [] i h = refl
+    none (y ∷ ys) i h = none_first test y ys i (test y) refl (none ys (i + 1)) h
+
+-- the model has what the records have
+pub slot_here : (ts : List Tray) (s : Session) (i : ℕ) → slot_at (standing_model ts s) i ≡ slot_in ts (get_or s.slots i no_slot)
+slot_here ts s i = get_or-map (slot_in ts) s.slots i no_slot
+
+pub session_here : (ts : List Tray) (ss : List (Option Session)) (p : ℕ) → get_or (map (session_model ts) ss) p None ≡ session_model ts (get_or ss p None)
+session_here ts ss p = get_or-map (session_model ts) ss p None
+
+-- the session of the model at a place, from the one that stands there
+pub stood : (ts : List Tray) (ss : List (Option Session)) (p : ℕ) (m : SessionM) → get_or (map (session_model ts) ss) p None ≡ Some m → (s : Session) × (get_or ss p None ≡ Some s) × (m ≡ standing_model ts s)
+stood ts ss p m e = go (get_or ss p None) (sym (session_here ts ss p) ∙ e)
+  where
+    go : (o : Option Session) → session_model ts o ≡ Some m → (s : Session) × (o ≡ Some s) × (m ≡ standing_model ts s)
+    go None h = absurd (let z : ◌≡◌ {A = ℕ} 0 1 = cc in omega arith)
+    go (Some s) h = (s, refl, cc)
+
+-- what the code reads at a place, or at a slot, is there
+pub stands_at : (v : Server) (p : ℕ) (d : Option Session) (s : Session) → p < 8 → get_or v.sessions p d ≡ Some s → get_or v.sessions p None ≡ Some s
+stands_at v p d s low e = get_or_default v.sessions p None d (omega (arith, v.whole)) ∙ e
+
+-- trays of which only one differs, and slots that do not own that one
+module _ (ts us : List Tray) (k : ℕ) (others : (j : ℕ) → (j ≡ k → ⊥) → get_or us j no_tray ≡ get_or ts j no_tray) where
+  slot_same : (y : Slot) → (y.tray ≡ Some k → ⊥) → slot_in us y ≡ slot_in ts y
+  slot_same y ne = ap (λ t. slot_model t y) (go y.tray refl)
+    where
+      go : (o : Option ℕ) → y.tray ≡ o → tray_at us o ≡ tray_at ts o
+      go None e = refl
+      go (Some j) e = others j (λ q. ne (e ∙ ap Some q))
+
+  session_same : (o : Option Session) → ((n : ℕ) → tray_in o n ≡ Some k → ⊥) → session_model us o ≡ session_model ts o
+  session_same None ne = refl
+  session_same (Some r) ne = ap (λ xs. Some (record { id = id_model r.id; target = r.target; slots = xs })) (map_same (slot_in us) (slot_in ts) r.slots no_slot (λ n. slot_same (get_or r.slots n no_slot) (ne n)))
+
+  -- slot i of the session at place p changes, and owns that tray before or after
+  module _ (ss : List (Option Session)) (p i : ℕ) (s s' : Session) (x' : Slot) (hs : get_or ss p None ≡ Some s) (hi : i < length s.slots) (slots : s'.slots ≡ set s.slots i x') (m : Marked ss ts) (mine : (j n : ℕ) → (get_or ts k no_tray).owner ≡ Some (spot j n) → (j ≡ p) × (n ≡ i)) where
+    abbrev x : Slot
+    x = get_or s.slots i no_slot
+
+    away : (j n : ℕ) → (j ≡ p → n ≡ i → ⊥) → tray_of ss j n ≡ Some k → ⊥
+    away j n ne e = let o = mine j n (m j n k e) in ne o.0 o.1
+
+    there : tray_of ss p i ≡ x.tray
+    there = ap (λ o. tray_in o i) hs
+
+    placed_session : get_or (set ss p (Some s')) p None ≡ Some s'
+    placed_session = get_or-set_same ss p (Some s') None (within ss p s hs)
+
+    slot_same_there : (n : ℕ) → (n ≡ i → ⊥) → tray_in (Some s') n ≡ tray_of ss p n
+    slot_same_there n ne =
+        ap (λ xs. (get_or xs n no_slot).tray) slots
+        ∙ ap (λ (y : Slot). y.tray) (get_or-set_other s.slots i n x' no_slot ne)
+        ∙ sym (ap (λ o. tray_in o n) hs)
+
+    pub marked : ((j : ℕ) → x'.tray ≡ Some j → (get_or us j no_tray).owner ≡ Some (spot p i)) → Marked (set ss p (Some s')) us
+    marked own j n l e = ⊎_elim here elsewhere (cases_eq j p)
+      where
+        kept : (j ≡ p → n ≡ i → ⊥) → tray_of ss j n ≡ Some l → (get_or us l no_tray).owner ≡ Some (spot j n)
+        kept ne h = ap (λ (t : Tray). t.owner) (others l (λ q. away j n ne (h ∙ ap Some q))) ∙ m j n l h
+
+        elsewhere : (j ≡ p → ⊥) → (get_or us l no_tray).owner ≡ Some (spot j n)
+        elsewhere ne = kept (λ q _. ne q) (sym (ap (λ o. tray_in o n) (get_or-set_other ss p j (Some s') None ne)) ∙ e)
+
+        here : j ≡ p → (get_or us l no_tray).owner ≡ Some (spot j n)
+        here q =
+            let h : tray_in (Some s') n ≡ Some l = sym (ap (λ o. tray_in o n) (ap (λ u. get_or (set ss p (Some s')) u None) q ∙ placed_session)) ∙ e in
+            ⊎_elim
+            (λ r. (let g : x'.tray ≡ Some l = sym (ap (λ u. (get_or s'.slots u no_slot).tray) r ∙ ap (λ xs. (get_or xs i no_slot).tray) slots ∙ ap (λ (y : Slot). y.tray) (get_or-set_same s.slots i x' no_slot hi)) ∙ h in own l g ∙ (λ u. Some (spot (sym q u) (sym r u)))))
+            (λ r. kept (λ _ w. r w) (ap (λ u. tray_of ss u n) q ∙ sym (slot_same_there n r) ∙ h))
+            (cases_eq n i)
+
+    open_sum : sum_by slots_open (set ss p (Some s')) + one (is_some x.tray) ≡ sum_by slots_open ss + one (is_some x'.tray)
+    open_sum =
+        let live : Slot → Bool = λ y. is_some y.tray in
+        let a = sum_by-set slots_open ss p (Some s') None (within ss p s hs) in
+        let a' : slots_open (get_or ss p None) ≡ count_by live s.slots = ap slots_open hs in
+        let b : count_by live (set s.slots i x') + one (live x) ≡ count_by live s.slots + one (live x') = sum_by-set (λ y. one (live y)) s.slots i x' no_slot hi in
+        let b' : slots_open (Some s') ≡ count_by live (set s.slots i x') = ap (count_by live) slots in
+        omega arith
+
+    pub counted : count_by is_free ts + sum_by slots_open ss ≡ 64 → count_by is_free us + one (is_some x'.tray) ≡ count_by is_free ts + one (is_some x.tray) → count_by is_free us + sum_by slots_open (set ss p (Some s')) ≡ 64
+    counted h f = let a = open_sum in omega arith
+
+    pub placed : s'.id ≡ s.id → s'.target ≡ s.target → (f : SlotM → SlotM) → slot_in us x' ≡ f (slot_in ts x) → map (session_model us) (set ss p (Some s')) ≡ change_in (map (session_model ts) ss) p (at_slot f i)
+    placed id target f e =
+        map_apart (session_model us) (session_model ts) ss p (Some s') None _ session_then (λ j ne. session_same (get_or ss j None) (λ n q. away j n (λ r _. ne r) q))
+      where
+        slots_then : map (slot_in us) s'.slots ≡ set (map (slot_in ts) s.slots) i (f (slot_at (standing_model ts s) i))
+        slots_then =
+            ap (map (slot_in us)) slots
+            ∙ map_apart (slot_in us) (slot_in ts) s.slots i x' no_slot _ (e ∙ sym (ap f (slot_here ts s i)))
+            (λ n ne. slot_same (get_or s.slots n no_slot) (λ q. away p n (λ _ r. ne r) (ap (λ o. tray_in o n) hs ∙ q)))
+
+        session_then : session_model us (Some s') ≡ option_map (at_slot f i) (get_or (map (session_model ts) ss) p None)
+        session_then =
+            (λ u. Some (record { id = id_model (id u); target = target u; slots = slots_then u }))
+            ∙ sym (ap (option_map (at_slot f i)) (session_here ts ss p ∙ ap (session_model ts) hs))
+
+-- slot i of the session at place p changes with a tray, which it owns before or after
+module _ (ss : List (Option Session)) (ts : List Tray) (p i k : ℕ) (s s' : Session) (x' : Slot) (t : Tray) (hs : get_or ss p None ≡ Some s) (hi : i < length s.slots) (slots : s'.slots ≡ set s.slots i x') (o : Owned ss ts) (hk : k < length ts) where
+  abbrev old : Slot
+  old = get_or s.slots i no_slot
+
+  others : (j : ℕ) → (j ≡ k → ⊥) → get_or (set ts k t) j no_tray ≡ get_or ts j no_tray
+  others j ne = get_or-set_other ts k j t no_tray ne
+
+  own : x'.tray ≡ Some k → t.owner ≡ Some (spot p i) → (j : ℕ) → x'.tray ≡ Some j → (get_or (set ts k t) j no_tray).owner ≡ Some (spot p i)
+  own e w j h = let q : k ≡ j = cc in ap (λ n. (get_or (set ts k t) n no_tray).owner) (sym q) ∙ ap (λ (u : Tray). u.owner) (get_or-set_same ts k t no_tray hk) ∙ w
+
+  put : ((j n : ℕ) → (get_or ts k no_tray).owner ≡ Some (spot j n) → (j ≡ p) × (n ≡ i)) → ((j : ℕ) → x'.tray ≡ Some j → (get_or (set ts k t) j no_tray).owner ≡ Some (spot p i)) → one (is_free t) + one (is_some x'.tray) ≡ one (is_free (get_or ts k no_tray)) + one (is_some old.tray) → Owned (set ss p (Some s')) (set ts k t)
+  put mine w e =
+      let c : count_by is_free (set ts k t) + one (is_free (get_or ts k no_tray)) ≡ count_by is_free ts + one (is_free t) = sum_by-set (λ u. one (is_free u)) ts k t no_tray hk in
+      (marked ts (set ts k t) k others ss p i s s' x' hs hi slots o.0 mine w, counted ts (set ts k t) k others ss p i s s' x' hs hi slots o.0 mine o.1 (omega arith))
+
+  -- it owns the tray before
+  module _ (h : old.tray ≡ Some k) where
+    owner_is : (get_or ts k no_tray).owner ≡ Some (spot p i)
+    owner_is = o.0 p i k (ap (λ r. tray_in r i) hs ∙ h)
+
+    mine : (j n : ℕ) → (get_or ts k no_tray).owner ≡ Some (spot j n) → (j ≡ p) × (n ≡ i)
+    mine j n e =
+        let w : Some (spot j n) ≡ Some (spot p i) = sym e ∙ owner_is in
+        let q : spot j n ≡ spot p i = cc in
+        (ap (λ (u : Spot). u.place) q, ap (λ (u : Spot). u.slot) q)
+
+    was_taken : one (is_free (get_or ts k no_tray)) ≡ 0
+    was_taken = ap (λ r. one (not (is_some r))) owner_is
+
+    was_open : one (is_some old.tray) ≡ 1
+    was_open = ap (λ r. one (is_some r)) h
+
+    pub freed : x'.tray ≡ None → t.owner ≡ None → Owned (set ss p (Some s')) (set ts k t)
+    freed e w =
+        let a : one (is_free t) ≡ 1 = ap (λ r. one (not (is_some r))) w in
+        let b : one (is_some x'.tray) ≡ 0 = ap (λ r. one (is_some r)) e in
+        put mine (λ j q. absurd (let z : ◌≡◌ {A = ℕ} 0 1 = cc in omega arith)) (omega (arith, a, b, was_taken, was_open))
+
+    pub kept : x'.tray ≡ Some k → t.owner ≡ Some (spot p i) → Owned (set ss p (Some s')) (set ts k t)
+    kept e w =
+        let a : one (is_free t) ≡ 0 = ap (λ r. one (not (is_some r))) w in
+        let b : one (is_some x'.tray) ≡ 1 = ap (λ r. one (is_some r)) e in
+        put mine (own e w) (omega (arith, a, b, was_taken, was_open))
+
+    pub held_state : s'.id ≡ s.id → s'.target ≡ s.target → (f : SlotM → SlotM) → slot_in (set ts k t) x' ≡ f (slot_in ts old) → map (session_model (set ts k t)) (set ss p (Some s')) ≡ change_in (map (session_model ts) ss) p (at_slot f i)
+    held_state id target f e = placed ts (set ts k t) k others ss p i s s' x' hs hi slots o.0 mine id target f e
+
+  -- no slot owns it before
+  module _ (h : (get_or ts k no_tray).owner ≡ None) where
+    nobody : (j n : ℕ) → (get_or ts k no_tray).owner ≡ Some (spot j n) → (j ≡ p) × (n ≡ i)
+    nobody j n e = absurd (let z : ◌≡◌ {A = ℕ} 0 1 = cc in omega arith)
+
+    pub taken : old.tray ≡ None → x'.tray ≡ Some k → t.owner ≡ Some (spot p i) → Owned (set ss p (Some s')) (set ts k t)
+    taken l e w =
+        let a : one (is_free (get_or ts k no_tray)) ≡ 1 = ap (λ r. one (not (is_some r))) h in
+        let b : one (is_some old.tray) ≡ 0 = ap (λ r. one (is_some r)) l in
+        let c : one (is_free t) ≡ 0 = ap (λ r. one (not (is_some r))) w in
+        let d : one (is_some x'.tray) ≡ 1 = ap (λ r. one (is_some r)) e in
+        put nobody (own e w) (omega arith)
+
+    pub taken_state : s'.id ≡ s.id → s'.target ≡ s.target → (f : SlotM → SlotM) → slot_in (set ts k t) x' ≡ f (slot_in ts old) → map (session_model (set ts k t)) (set ss p (Some s')) ≡ change_in (map (session_model ts) ss) p (at_slot f i)
+    taken_state id target f e = placed ts (set ts k t) k others ss p i s s' x' hs hi slots o.0 nobody id target f e
+
+pub shut_is : (ts : List Tray) (ss : List (Option Session)) (p i : ℕ) → when_found {X = ℕ} 0 (λ s. cond (slot_at s i).is_open 0 1) (get_or (map (session_model ts) ss) p None) ≡ shut_in ss p i
+shut_is ts ss p i = ap (when_found 0 (λ s. cond (slot_at s i).is_open 0 1)) (session_here ts ss p) ∙ go (get_or ss p None)
+  where
+    go : (o : Option Session) → when_found {X = ℕ} 0 (λ s. cond (slot_at s i).is_open 0 1) (session_model ts o) ≡ when_found 0 (λ (s : Session). cond (is_some (tray_in (Some s) i)) 0 1) o
+    go None = refl
+    go (Some s) = ap (λ (y : SlotM). cond y.is_open 0 1) (slot_here ts s i)
+
+pub taken_count : (ts : List Tray) (k : ℕ) (t : Tray) (q : Spot) → k < length ts → (get_or ts k no_tray).owner ≡ None → t.owner ≡ Some q → count_by is_free (set ts k t) + 1 ≡ count_by is_free ts
+taken_count ts k t q hk h w =
+    let a : one (is_free (get_or ts k no_tray)) ≡ 1 = ap (λ r. one (not (is_some r))) h in
+    let b : one (is_free t) ≡ 0 = ap (λ r. one (not (is_some r))) w in
+    let c : count_by is_free (set ts k t) + one (is_free (get_or ts k no_tray)) ≡ count_by is_free ts + one (is_free t) = sum_by-set (λ u. one (is_free u)) ts k t no_tray hk in
+    omega arith
+
+-- slot i of the session at place p changes, and all trays stay as they are
+module _ (ss : List (Option Session)) (ts : List Tray) (p i : ℕ) (s s' : Session) (x' : Slot) (hs : get_or ss p None ≡ Some s) (hi : i < length s.slots) (slots : s'.slots ≡ set s.slots i x') (o : Owned ss ts) where
+  past : (j n : ℕ) → (get_or ts (length ts) no_tray).owner ≡ Some (spot j n) → (j ≡ p) × (n ≡ i)
+  past j n e =
+      let q = sym (ap (λ (t : Tray). t.owner) (get_or-eq_default ts no_tray {n = length ts} (omega arith))) ∙ e in
+      absurd (let z : ◌≡◌ {A = ℕ} 0 1 = cc in omega arith)
+
+  pub still_owned : x'.tray ≡ (get_or s.slots i no_slot).tray → Owned (set ss p (Some s')) ts
+  still_owned e =
+      (marked ts ts (length ts) (λ j _. refl) ss p i s s' x' hs hi slots o.0 past (λ j q. o.0 p i j (ap (λ r. tray_in r i) hs ∙ sym e ∙ q)), counted ts ts (length ts) (λ j _. refl) ss p i s s' x' hs hi slots o.0 past o.1 (ap (λ r. count_by is_free ts + one (is_some r)) e))
+
+  pub still_state : s'.id ≡ s.id → s'.target ≡ s.target → (f : SlotM → SlotM) → slot_in ts x' ≡ f (slot_in ts (get_or s.slots i no_slot)) → map (session_model ts) (set ss p (Some s')) ≡ change_in (map (session_model ts) ss) p (at_slot f i)
+  still_state id target f e = placed ts ts (length ts) (λ j _. refl) ss p i s s' x' hs hi slots o.0 past id target f e
+
+-- a slot that is shut wants one tray
+pub shut_one : (ss : List (Option Session)) (p i : ℕ) (s : Session) → get_or ss p None ≡ Some s → (get_or s.slots i no_slot).tray ≡ None → shut_in ss p i ≡ 1
+shut_one ss p i s hs h = ap (λ o. when_found 0 (λ (r : Session). cond (is_some (tray_in (Some r) i)) 0 1) o) hs ∙ ap (λ o. cond (is_some o) 0 1) h
+
+pub none_if : {X : Type 0} (o : Option X) → is_some o ≡ false → o ≡ None
+none_if None h = refl
+none_if (Some x) h = absurd (clash (sym h))
+
+pub free_none : (t : Tray) → is_free t ≡ true → t.owner ≡ None
+free_none t e = go t.owner e
+  where
+    go : (o : Option Spot) → not (is_some o) ≡ true → o ≡ None
+    go None h = refl
+    go (Some q) h = absurd (clash h)
 
 -- the trays, as the model counts them
-pub open_slots_is : (ts : List Tray) (s : Session) → open_slots (session_model ts s) ≡ slots_open s
-open_slots_is ts s = go s.standing
-  where
-    counts : (xs : List Slot) → count_by (λ (x : SlotM). x.is_open) (map (slot_in ts) xs) ≡ count_by (λ (x : Slot). x.live) xs
-    counts xs = sum_map_is (λ (x : SlotM). one x.is_open) (slot_in ts) xs
+pub open_slots_is : (ts : List Tray) (o : Option Session) → open_slots (session_model ts o) ≡ slots_open o
+open_slots_is ts None = refl
+open_slots_is ts (Some s) = sum_map_is (λ (x : SlotM). one x.is_open) (slot_in ts) s.slots
 
-    go : (b : Bool) → open_slots (cond b (Some (standing_model ts s)) None) ≡ cond b (count_by (λ (x : Slot). x.live) s.slots) 0
-    go true = counts s.slots
-    go false = refl
+pub open_sum_is : (ts : List Tray) (ss : List (Option Session)) → sum_by open_slots (map (session_model ts) ss) ≡ sum_by slots_open ss
+open_sum_is ts ss = sum_map_is open_slots (session_model ts) ss ∙ ap (λ f. sum_by f ss) (λ i o. open_slots_is ts o i)
 
-pub open_sum_is : (ts : List Tray) (ss : List Session) → sum_by open_slots (map (session_model ts) ss) ≡ sum_by slots_open ss
-open_sum_is ts ss = sum_map_is open_slots (session_model ts) ss ∙ ap (λ f. sum_by f ss) (λ i s. open_slots_is ts s i)
-
-pub free_of : (boot count : ℕ) (ts : List Tray) (ss : List Session) (os : List (Option Owner)) → count_by is_free os + sum_by slots_open ss ≡ 64 → free_trays (record { boot = boot; count = count; sessions = map (session_model ts) ss }) ≡ count_by is_free os
+pub free_of : (boot count : ℕ) (ts us : List Tray) (ss : List (Option Session)) → count_by is_free ts + sum_by slots_open ss ≡ 64 → free_trays (record { boot = boot; count = count; sessions = map (session_model us) ss }) ≡ count_by is_free ts
 unfolding free_trays
-free_of boot count ts ss os b = let a = open_sum_is ts ss in ap (λ n. 64 - n) a ∙ omega arith
+free_of boot count ts us ss b = let a = open_sum_is us ss in ap (λ n. 64 - n) a ∙ omega arith
 
-pub free_is : (v : Server) → free_trays (model v) ≡ count_by is_free v.owners
-free_is v = free_of v.boot v.count v.trays v.sessions v.owners v.counted
-
--- a call that is new at a slot finds it open
-pub new_live : (boot count : ℕ) (ts : List Tray) (ss : List Session) (p : ℕ) (s : Session) (x : Slot) (q : Request) → slice_get ss p ≡ Some s → slice_get s.slots q.slot ≡ Some x → verdict_at (record { boot = boot; count = count; sessions = map (session_model ts) ss }) p q ≡ new → (s.standing ≡ true) × (x.live ≡ true)
-new_live boot count ts ss p s x q hs hx e =
-    let n = new_at (record { boot = boot; count = count; sessions = map (session_model ts) ss }) p q e in
-    let st = stands_here ts ss p s hs n.0 in
-    let here : slot_at (standing_model ts s) q.slot ≡ slot_in ts x = get_or-map (slot_in ts) s.slots q.slot x new_slot (nth_within s.slots q.slot x hx) ∙ ap (slot_in ts) (nth_is s.slots q.slot x x hx) in
-    (st, sym (ap (λ (y : SlotM). y.is_open) here) ∙ n.2 (standing_model ts s) (session_here ts ss p s hs ∙ cond-true _ _ _ st))
-
--- an open slot changes with the bytes of its tray
-pub stored : (ts : List Tray) (os : List (Option Owner)) (ss : List Session) (p i : ℕ) (s s' : Session) (x x' : Slot) (t d : Tray) (f : SlotM → SlotM) → slice_get ss p ≡ Some s → slice_get s.slots i ≡ Some x → s.standing ≡ true → s'.slots ≡ set s.slots i x' → s'.standing ≡ s.standing → s'.id ≡ s.id → s'.target ≡ s.target → Marked ss os → x.live ≡ true → x'.tray ≡ x.tray → x.tray < length ts → slot_model t x' ≡ f (slot_model (get_or ts x.tray d) x) → map (session_model (set ts x.tray t)) (set ss p s') ≡ change_in (map (session_model ts) ss) p (at_slot f i)
-stored ts os ss p i s s' x x' t d f hs hx st slots st' id target m l tray h e =
-    placed ss p i s s' x x' hs hx st slots st' ts (set ts x.tray t) id target f here frame
-  where
-    here : slot_in (set ts x.tray t) x' ≡ f (slot_in ts x)
-    here =
-        ap (λ u. slot_model u x') (ap (λ k. get_or (set ts x.tray t) k no_tray) tray ∙ get_or-set_same ts x.tray t no_tray h)
-        ∙ e
-        ∙ ap (λ u. f (slot_model u x)) (get_or_default ts x.tray d no_tray h)
-
-    frame : (j n : ℕ) (r : Session) (y : Slot) → slice_get ss j ≡ Some r → r.standing ≡ true → slice_get r.slots n ≡ Some y → (j ≡ p → n ≡ i → ⊥) → slot_in (set ts x.tray t) y ≡ slot_in ts y
-    frame j n r y hr st_r hy ne = go y.live refl
-      where
-        go : (b : Bool) → y.live ≡ b → slot_in (set ts x.tray t) y ≡ slot_in ts y
-        go false k = same_shut y (get_or (set ts x.tray t) y.tray no_tray) (get_or ts y.tray no_tray) k
-        go true k = ap (λ u. slot_model u y) (get_or-set_other ts x.tray y.tray t no_tray (apart ss p i s s' x x' hs hx st slots st' os m l j n r y hr st_r hy ne k))
-
--- the session of the model at a place, from the one that the code has there
-module _ (ts : List Tray) (ss : List Session) (p : ℕ) (s : Session) (m : SessionM) (hs : slice_get ss p ≡ Some s) (e : get_or (map (session_model ts) ss) p None ≡ Some m) where
-  pub session_is : (s.standing ≡ true) × (m ≡ standing_model ts s)
-  session_is = go s.standing refl (sym (session_here ts ss p s hs) ∙ e)
-    where
-      go : (b : Bool) → s.standing ≡ b → cond b (Some (standing_model ts s)) None ≡ Some m → (s.standing ≡ true) × (m ≡ standing_model ts s)
-      go true h k = let q : m ≡ standing_model ts s = cc in (h, q)
-      go false h k = absurd (let z : ◌≡◌ {A = ℕ} 0 1 = cc in omega arith)
-
-  pub slot_is : (i : ℕ) (x : Slot) → slice_get s.slots i ≡ Some x → slot_at m i ≡ slot_in ts x
-  slot_is i x hx =
-      ap (λ (n : SessionM). slot_at n i) session_is.1
-      ∙ get_or-map (slot_in ts) s.slots i x new_slot (nth_within s.slots i x hx)
-      ∙ ap (slot_in ts) (nth_is s.slots i x x hx)
-
-  pub target_is : m.target ≡ s.target
-  target_is = ap (λ (n : SessionM). n.target) session_is.1
+pub free_is : (v : Server) → free_trays (model v) ≡ count_by is_free v.trays
+free_is v = free_of v.boot v.count v.trays v.trays v.sessions v.counted

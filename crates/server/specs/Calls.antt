@@ -5,23 +5,28 @@ use Rattle.wire.specs.Models.{id_model, refusal_model}
 use Rattle.wire.specs.declared.messages.SessionId.{SessionId as CodeId}
 use Rattle.wire.specs.declared.refusals.Refusal.{Refusal as CodeRefusal}
 use Rattle.service.specs.Service.{ServiceModel}
+use Rattle.server.specs.declared.orders.Call.{Call}
 use Rattle.server.specs.declared.orders.WorkOrder.{WorkOrder}
 use Rattle.server.specs.declared.answers.Answer.{Answer}
 use Rattle.server.specs.declared.answers.Served.{Served as CodeServed}
-use Rattle.server.specs.declared.answers.Served.TheVariants.{Fault, Says, Old, Work as Order}
+use Rattle.server.specs.declared.answers.Served.TheVariants.{Says, Old, Work as Order}
 use Rattle.server.specs.Server.{ServerM, Work, Served, fault, says, old, work, Opening, Run}
 use Rattle.server.specs.Models.{answer_model}
 
+-- the call that a work order names
+abbrev pub call_model : Call → Work
+call_model c = record { id = id_model c.id; slot = c.slot; number = c.number }
+
 -- a work order
 abbrev pub work_model : WorkOrder → Work
-work_model w = record { id = id_model w.id; slot = w.slot; number = w.number }
+work_model w = call_model w.call
 
 -- what serve gives
-abbrev pub served_model : CodeServed → Served
-served_model (Fault e) = fault (refusal_model e)
-served_model (Says a) = says (answer_model a)
-served_model (Old a) = old (answer_model a)
-served_model (Order w) = work (work_model w)
+abbrev pub served_model : Result CodeServed CodeRefusal → Served
+served_model (Ok (Says a)) = says (answer_model a)
+served_model (Ok (Old a)) = old (answer_model a)
+served_model (Ok (Order w)) = work (work_model w)
+served_model (Err e) = fault (refusal_model e)
 
 -- a server as made
 abbrev pub new_server : ℕ → ℕ → ServerM

@@ -1,5 +1,5 @@
 -- How many calls are in progress.
-use Rattle.std.specs.Prelude.{ℕ, Bool, cond, [], Some, None, sum_by, count_by, Option}
+use Rattle.std.specs.Prelude.{ℕ, Bool, [], Some, None, sum_by, count_by, Option}
 use Rattle.server.specs.declared.records.Slot.{Slot}
 use Rattle.server.specs.declared.records.Session.{Session}
 use Rattle.server.specs.Models.{last_model}
@@ -19,5 +19,6 @@ abbrev pub works : Slot → Bool
 works x = is_working (last_model x.last [])
 
 -- at how many slots of a place
-abbrev pub slots_working : Session → ℕ
-slots_working s = cond s.standing (count_by works s.slots) 0
+abbrev pub slots_working : Option Session → ℕ
+slots_working None = 0
+slots_working (Some s) = count_by works s.slots

@@ -1,7 +1,8 @@
 -- The bounds of what a reply may carry.
-use Rattle.std.specs.Prelude.{ℕ, ◌≤◌}
+use Rattle.std.specs.Prelude.{◌≡◌, ℕ, ◌<◌, ◌≤◌, []}
+use Rattle.common.specs.Bytes.{Bytes}
 use Rattle.wire.specs.declared.statuses.Status.{Status}
-use Rattle.wire.specs.Wire.{top_with, longest_with}
+use Rattle.wire.specs.Wire.{top_with}
 use Rattle.wire.specs.Models.{status_number}
 use Rattle.server.specs.declared.records.Last.{Last}
 use Rattle.server.specs.declared.records.Last.TheVariants.{Never, InProgress, Kept, NotKept}
@@ -20,7 +21,7 @@ kept_target InProgress = 0
 kept_target (Kept highest target) = target
 kept_target NotKept = 0
 
--- a reply with that status may carry that highest, that target and a body of that length
-abbrev pub Fits : Status → ℕ → ℕ → ℕ → Type 0
-Fits status highest target len =
-    (highest ≤ top_with (status_number status)) × (target ≤ top_with (status_number status)) × (len ≤ longest_with (status_number status))
+-- a reply with that status may carry that highest, that target and that body, which is never too long for status 0
+abbrev pub Fits : Status → ℕ → ℕ → Bytes → Type 0
+Fits status highest target body =
+    (highest ≤ top_with (status_number status)) × (target ≤ top_with (status_number status)) × (0 < status_number status → body ≡ [])

@@ -1,24 +1,22 @@
 -- What the server's records stand for. Which tray a slot owns is left out: only the bytes in it are told.
-use Rattle.std.specs.Prelude.{Bool, cond, ◌&&◌, List, map, take, replicate, Some, None, Option, slice_index_or, refl}
+use Rattle.std.specs.Prelude.{Bool, false, List, map, is_some, Some, None, Option}
+use Rattle.std.specs.Option.{option_map}
 use Rattle.common.specs.Bytes.{Bytes}
 use Rattle.wire.specs.declared.messages.SessionId.{SessionId as CodeId}
 use Rattle.wire.specs.Wire.{Reply, same_id}
 use Rattle.wire.specs.Models.{id_model, status_number}
-use Rattle.server.specs.declared.records.Body.{Body}
 use Rattle.server.specs.declared.records.Tray.{Tray}
 use Rattle.server.specs.declared.records.Last.{Last as CodeLast}
 use Rattle.server.specs.declared.records.Last.TheVariants.{Never, InProgress, Kept, NotKept}
 use Rattle.server.specs.declared.records.Slot.{Slot}
+use Rattle.server.specs.declared.records.Entry.{Entry}
 use Rattle.server.specs.declared.answers.Answer.{Answer}
 use Rattle.server.specs.declared.answers.Verdict.{Verdict as CodeVerdict}
 use Rattle.server.specs.declared.answers.Verdict.TheVariants.{Refuse, Repeat, New}
 use Rattle.server.specs.declared.records.Session.{Session}
 use Rattle.server.specs.declared.state.Server.{Server}
+use Rattle.server.specs.Trays.{tray_at}
 use Rattle.server.specs.Server.{Last, never, in_progress, kept, not_kept, SlotM, SessionM, ServerM, Verdict, refuse, repeat, new}
-
--- the bytes of a body
-abbrev pub held : Body → Bytes
-held b = take b.len b.bytes
 
 -- what is kept of a call, with the reply body that was kept
 abbrev pub last_model : CodeLast → Bytes → Last
@@ -27,36 +25,37 @@ last_model InProgress b = in_progress
 last_model (Kept highest target) b = kept highest target b
 last_model NotKept b = not_kept
 
--- a slot and a tray
+-- a slot and its tray
 abbrev pub slot_model : Tray → Slot → SlotM
 slot_model t x = record {
-  is_open = x.live;
+  is_open = is_some x.tray;
   number = x.number;
   highest = x.highest;
   keep = x.keep;
-  body = take x.asked t.request;
-  last = last_model x.last (take x.answered t.reply);
+  body = t.request;
+  last = last_model x.last t.reply;
 }
 
--- a tray that is not there
-abbrev pub no_tray : Tray
-no_tray = record { request = replicate 256 0; reply = replicate 256 0; whole = (refl, refl) }
+-- both, as the code holds them together
+abbrev pub entry_model : Entry → SlotM
+entry_model e = slot_model e.tray e.slot
 
--- a slot and its own tray
+-- a slot among the trays: one that is shut has no bytes
 abbrev pub slot_in : List Tray → Slot → SlotM
-slot_in ts x = slot_model (slice_index_or ts x.tray no_tray) x
+slot_in ts x = slot_model (tray_at ts x.tray) x
 
 -- a session that stands
 abbrev pub standing_model : List Tray → Session → SessionM
 standing_model ts s = record { id = id_model s.id; target = s.target; slots = map (slot_in ts) s.slots }
 
 -- a place
-abbrev pub session_model : List Tray → Session → Option SessionM
-session_model ts s = cond s.standing (Some (standing_model ts s)) None
+abbrev pub session_model : List Tray → Option Session → Option SessionM
+session_model ts = option_map (standing_model ts)
 
 -- the session of an id stands at the place
-abbrev pub bears : CodeId → Session → Bool
-bears id s = s.standing && same_id (id_model s.id) (id_model id)
+abbrev pub bears : CodeId → Option Session → Bool
+bears id None = false
+bears id (Some s) = same_id (id_model s.id) (id_model id)
 
 -- the server
 abbrev pub model : Server → ServerM
@@ -65,9 +64,9 @@ model v = record { boot = v.boot; count = v.count; sessions = map (session_model
 -- what a slot says of a request
 abbrev pub verdict_model : CodeVerdict → Verdict
 verdict_model (Refuse s) = refuse (status_number s)
-verdict_model (Repeat o) = repeat o.highest o.target (held o.body)
+verdict_model (Repeat o) = repeat o.highest o.target o.body
 verdict_model New = new
 
 -- a reply with bytes of its own
 abbrev pub answer_model : Answer → Reply
-answer_model a = record { status = status_number a.status; id = id_model a.id; number = a.number; slot = a.slot; highest = a.highest; target = a.target; body = held a.body }
+answer_model a = record { status = status_number a.status; id = id_model a.id; number = a.number; slot = a.slot; highest = a.highest; target = a.target; body = a.body }

@@ -1,11 +1,11 @@
 -- Smaller steps, at one slot or at one place, that the server's calls are made of.
-use Rattle.std.specs.Prelude.{ℕ, ◌+◌, Bool, false, cond, not, List, [], take, replicate, Some, None, count_by, Option, slice_index_or, slice_set}
+use Rattle.std.specs.Prelude.{◌≡◌, ℕ, ◌+◌, Bool, true, false, cond, not, List, [], take, replicate, Some, None, count_by, Option, slice_index_or, slice_set}
 use Rattle.std.specs.Option.{option_map}
 use Rattle.common.specs.Bytes.{Bytes}
-use Rattle.common.specs.Search.{when_found}
+use Rattle.common.specs.Search.{when_found, lowest_at}
 use Rattle.wire.specs.Wire.{SessionId, Request}
 use Rattle.slots.specs.Slots.{highest_at, front_changed}
-use Rattle.server.specs.Server.{Last, never, in_progress, kept, not_kept, SlotM, SessionM, ServerM, Verdict, refuse, is_kept, new_slot, slot_at, with_slot, with_open, verdict, works_at, is_bare, run_open}
+use Rattle.server.specs.Server.{Last, never, in_progress, kept, not_kept, SlotM, SessionM, ServerM, Work, place_of, is_vacant, is_in_hand, Verdict, refuse, is_kept, new_slot, slot_at, with_slot, with_open, verdict, works_at, is_bare, run_open}
 
 -- a slot once its call has run and gave those bytes
 abbrev pub concluded : SlotM → ℕ → ℕ → Bytes → SlotM
@@ -32,6 +32,10 @@ emptied x = record { is_open = false; number = x.number; highest = x.highest; ke
 -- the session at a place
 abbrev pub session_at : ServerM → ℕ → Option SessionM
 session_at m place = slice_index_or m.sessions place None
+
+-- the lowest place without one
+abbrev pub vacant_place : ServerM → Option ℕ
+vacant_place m = lowest_at is_vacant m.sessions 0
 
 -- a change of the session at one of several places
 abbrev pub change_in : List (Option SessionM) → ℕ → (SessionM → SessionM) → List (Option SessionM)
@@ -69,9 +73,9 @@ works_in m place i = when_found false (λ s. works_at s i) (session_at m place)
 abbrev pub bare_in : ServerM → ℕ → ℕ → Bool
 bare_in m place i = when_found false (λ s. is_bare (slot_at s i)) (session_at m place)
 
--- or has a body
-abbrev pub asks_in : ServerM → ℕ → ℕ → Bool
-asks_in m place i = when_found false (λ s. not (is_bare (slot_at s i))) (session_at m place)
+-- the call that a work order names is in progress at slot i of the session at a place
+abbrev pub Holds : ServerM → Work → ℕ → ℕ → Type 0
+Holds m w place i = (place_of m w.id ≡ Some place) × (i ≡ w.slot) × (when_found false (λ s. is_in_hand s w) (session_at m place) ≡ true)
 
 -- a session whose slot i is shut, if the bare call there shuts it when it runs
 abbrev pub settled : ℕ → SessionM → SessionM
@@ -88,7 +92,3 @@ begun m place id target = record { boot = m.boot; count = m.count + 1; sessions 
 -- a session with another target
 abbrev pub with_target : ℕ → SessionM → SessionM
 with_target target s = record { id = s.id; target = target; slots = s.slots }
-
--- the server with no session at a place
-abbrev pub vacated : ServerM → ℕ → ServerM
-vacated m place = record { boot = m.boot; count = m.count; sessions = slice_set m.sessions place None }

@@ -2,10 +2,10 @@ ghost use Rattle.std.specs.Prelude.{◌≤◌};
 ghost use Rattle.server.specs.Fits.{Fits};
 
 use crate::orders::WorkOrder;
-use crate::records::Body;
-use wire::{Refusal, SessionId, Status};
+use slots::Body;
+use wire::{SessionId, Status};
 
-/// The outcome of a finished call.
+/// The outcome of a finished call. What is kept of it in a slot is the same but for the body, which lies in the tray.
 #[derive(Clone, Copy)]
 pub struct Outcome {
     pub(crate) highest: u32,
@@ -15,6 +15,7 @@ pub struct Outcome {
 }
 
 /// What a slot says of a request: a status, the outcome of the call that it repeats, or that it is new.
+/// No Result, since a status is an answer of the rules like the others and none of the three ends the judging.
 #[derive(Clone, Copy)]
 pub enum Verdict {
     Refuse(Status),
@@ -22,7 +23,7 @@ pub enum Verdict {
     New,
 }
 
-/// A reply with bytes of its own.
+/// A reply with bytes of its own. No `Reply` over another body, since this one can always be written.
 #[derive(Clone, Copy)]
 pub struct Answer {
     pub(crate) status: Status,
@@ -32,13 +33,11 @@ pub struct Answer {
     pub(crate) highest: u32,
     pub(crate) target: u32,
     pub(crate) body: Body,
-    // so that it can always be written
-    ghost fit: { Fits status highest target body.len },
+    ghost fit: { Fits status highest target body },
 }
 
-/// What serve gives: a fault, a reply with a status, a reply with an old outcome, or a work order.
+/// What serving a request gives: a reply with a status, a reply with an old outcome, or a work order.
 pub enum Served {
-    Fault(Refusal),
     Says(Answer),
     Old(Answer),
     Work(WorkOrder),

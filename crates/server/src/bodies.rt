@@ -1,57 +1,26 @@
-ghost use Rattle.std.specs.Prelude.{◌≡◌, ◌≤◌, [], length, take, None};
-ghost use Rattle.std.specs.Str.{bytes_eq};
+ghost use Rattle.std.specs.Prelude.{◌≡◌, ◌≤◌, cond, [], length, None, ◌==◌};
 ghost use Rattle.wire.specs.Wire.{forbidden_reply};
 ghost use Rattle.wire.specs.Models.{reply_model};
-ghost use Rattle.server.specs.Models.{held, answer_model};
+ghost use Rattle.server.specs.Models.{answer_model};
+ghost use Rattle.server.specs.Trays.{no_tray, spot};
 
 use crate::answers::Answer;
-use crate::records::{Body, LONGEST, Tray};
+use crate::records::{Spot, Tray};
 use service::Service;
+use slots::Body;
 use wire::Reply;
 
-pub(crate) fn same(a: &[u8], b: &[u8]) -> bool
-    ensures { result ≡ bytes_eq a.now b.now }
+// What the service replies to a request body; a call without one asks nothing of it.
+pub(crate) fn reply_of<S: Service>(service: &mut S, request: &[u8]) -> Body
+    ensures content { S.Service.content service.new ≡ cond (length request.now == 0) (S.Service.content service.old) (S.Service.model.next (S.Service.content service.old) request.now) }
+    ensures reply { result ≡ cond (length request.now == 0) [] (S.Service.model.reply (S.Service.content service.old) request.now) }
 {
-    a == b
-}
-
-impl Body {
-    pub(crate) fn empty() -> Body
-        ensures value { held result ≡ [] }
-        ensures none { result.len ≡ 0 }
-    {
-        Body {
-            bytes: [0; LONGEST],
-            len: 0,
-        }
+    if request.is_empty() {
+        return Body::empty();
     }
-
-    pub(crate) fn copied(from: &[u8]) -> Body
-        requires { length from.now ≤ 256 }
-        ensures { held result ≡ from.now }
-    {
-        let len = from.len();
-        let mut bytes = [0; LONGEST];
-        bytes[0..len].copy_from_slice(from);
-        Body { bytes, len }
-    }
-
-    // What the service replies to a request.
-    pub(crate) fn replied<S: Service>(service: &mut S, request: &[u8]) -> Body
-        ensures content { S.Service.content service.new ≡ S.Service.model.next (S.Service.content service.old) request.now }
-        ensures reply { held result ≡ S.Service.model.reply (S.Service.content service.old) request.now }
-    {
-        let mut bytes = [0; LONGEST];
-        let len = service.run(request, &mut bytes);
-        Body { bytes, len }
-    }
-
-    pub(crate) fn as_slice(&self) -> &[u8]
-        ensures value { result.now ≡ held self.now }
-        ensures size { length result.now ≡ self.now.len }
-    {
-        &self.bytes[0..self.len]
-    }
+    let mut bytes = [0; 256];
+    let len = service.run(request, &mut bytes);
+    Body::front(bytes, len)
 }
 
 impl Answer {
@@ -74,37 +43,24 @@ impl Answer {
 }
 
 impl Tray {
-    pub(crate) fn blank() -> Tray {
+    // By hand and not derived, as a slot is.
+    pub(crate) fn free() -> Tray
+        ensures { result ≡ no_tray }
+    {
         Tray {
-            request: [0; LONGEST],
-            reply: [0; LONGEST],
+            owner: None,
+            request: Body::empty(),
+            reply: Body::empty(),
         }
     }
 
-    // What the service replies to the request body of that length.
-    pub(crate) fn asked_of<S: Service>(&self, len: usize, service: &mut S) -> Body
-        requires { len ≤ 256 }
-        ensures content { S.Service.content service.new ≡ S.Service.model.next (S.Service.content service.old) (take len self.now.request) }
-        ensures reply { held result ≡ S.Service.model.reply (S.Service.content service.old) (take len self.now.request) }
+    // A slot that opens finds nothing of another's here.
+    pub(crate) fn owned(spot: Spot) -> Tray
+        ensures { result ≡ record no_tray { owner = Some spot } }
     {
-        Body::replied(service, &self.request[0..len])
-    }
-
-    pub(crate) fn put_request(&mut self, body: &[u8])
-        requires { length body.now ≤ 256 }
-        ensures request { take (length body.now) self.new.request ≡ body.now }
-        ensures reply { self.new.reply ≡ self.old.reply }
-    {
-        let len = body.len();
-        self.request[0..len].copy_from_slice(body);
-    }
-
-    pub(crate) fn put_reply(&mut self, body: &[u8])
-        requires { length body.now ≤ 256 }
-        ensures reply { take (length body.now) self.new.reply ≡ body.now }
-        ensures request { self.new.request ≡ self.old.request }
-    {
-        let len = body.len();
-        self.reply[0..len].copy_from_slice(body);
+        Tray {
+            owner: Some(spot),
+            ..Tray::free()
+        }
     }
 }

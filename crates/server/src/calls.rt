@@ -1,27 +1,20 @@
-ghost use Rattle.std.specs.Prelude.{◌≡◌, ◌+◌, ◌<◌, ◌≤◌, true, false, not, is_some, Some, None, sum_by};
+ghost use Rattle.std.specs.Prelude.{◌≡◌, ◌+◌, ◌<◌, ◌≤◌, true, is_some, Some, None, sum_by, count_by};
 ghost use Rattle.wire.specs.Wire.{SessionId as SessionIdM};
 ghost use Rattle.wire.specs.Models.{id_model};
 ghost use Rattle.server.specs.Server.{SessionM, session_of, place_of, free_trays, open_slots, open_session, open_in, retarget_session, retarget_in, close_session, after_call};
-ghost use Rattle.server.specs.Trays.{Apart};
+ghost use Rattle.server.specs.Trays.{Apart, is_free};
 ghost use Rattle.server.specs.Models.{model};
-ghost use Rattle.server.specs.Places.{session_at, change_at, begun, with_target, vacated};
+ghost use Rattle.server.specs.Places.{session_at, change_at, begun, with_target};
 ghost use Rattle.server.specs.Calls.{new_server, opening, after_opening, calling};
 
-use crate::places::Free;
-use crate::records::{Session, Tray};
+use crate::records::{PlaceId, Session, Tray};
 use crate::state::{PLACES, Server, TRAYS};
-use slots::{Test, count, lowest};
 use wire::{Refusal, SessionId};
 
-#[derive(Drop)]
-struct Vacant;
-
-impl Test<Session> for Vacant {
-    ghost passes = { λ _ s. not s.standing };
-
-    fn test(&self, item: &Session) -> bool {
-        !item.standing
-    }
+fn free_in(trays: &[Tray]) -> usize
+    ensures { result ≡ count_by is_free trays.now }
+{
+    trays.iter().filter(|tray| tray.owner.is_none()).count()
 }
 
 impl Server {
@@ -32,9 +25,8 @@ impl Server {
         Server {
             boot,
             count,
-            sessions: [Session::vacant(); PLACES],
-            owners: [None; TRAYS],
-            trays: [Tray::blank(); TRAYS],
+            sessions: [None; PLACES],
+            trays: [Tray::free(); TRAYS],
         }
     }
 
@@ -51,24 +43,22 @@ impl Server {
         ensures counted { result + sum_by open_slots (model self.now).sessions ≡ 64 }
         ensures apart { Apart self.now.sessions }
     {
-        count(&self.owners, &Free)
+        free_in(&self.trays)
     }
 
     // A session stands at a vacant place, its slots all shut.
-    fn begin(&mut self, place: usize, id: SessionId, target: u32)
-        requires within { place < 8 }
+    fn begin(&mut self, place: PlaceId, id: SessionId, target: u32)
         requires vacant { session_at (model self.old) place ≡ None }
         requires counts { self.old.count < 18446744073709551615 }
         requires low { target ≤ 15 }
         ensures { model self.new ≡ begun (model self.old) place (id_model id) target }
     {
         self.count += 1;
-        self.sessions[place] = Session::shut(id, target);
+        self.sessions[place.get()] = Some(Session::new(id, target));
     }
 
     // Opens a session at a vacant place.
-    fn open_at(&mut self, place: usize, target: u32) -> Result<SessionId, Refusal>
-        requires within { place < 8 }
+    fn open_at(&mut self, place: PlaceId, target: u32) -> Result<SessionId, Refusal>
         requires vacant { session_at (model self.old) place ≡ None }
         requires low { target ≤ 15 }
         ensures answer { opening result (model self.new) ≡ open_in (model self.old) target place }
@@ -98,26 +88,23 @@ impl Server {
         if target > 15 {
             return Err(Refusal::HighTarget);
         }
-        match lowest(&self.sessions, &Vacant) {
-            None => Err(Refusal::NoPlace),
-            Some(place) => self.open_at(place, target),
-        }
+        let place = self.vacant().ok_or(Refusal::NoPlace)?;
+        self.open_at(place, target)
     }
 
     // The session at a place gets another target.
-    fn aim(&mut self, place: usize, target: u32)
-        requires { (place < 8) × (target ≤ 15) }
+    fn aim(&mut self, place: PlaceId, target: u32)
+        requires { target ≤ 15 }
         ensures { model self.new ≡ change_at (model self.old) place (with_target target) }
     {
-        let mut session = self.sessions[place];
-        session.target = target;
-        self.sessions[place] = session;
+        if let Some(session) = &mut self.sessions[place.get()] {
+            session.target = target;
+        }
     }
 
     // Retargets the session at a place.
-    fn retarget_at(&mut self, place: usize, target: u32) -> Result<(), Refusal>
-        requires within { place < 8 }
-        requires stands { is_some (session_at (model self.old) place) ≡ true }
+    fn retarget_at(&mut self, place: PlaceId, target: u32) -> Result<(), Refusal>
+        requires { is_some (session_at (model self.old) place) ≡ true }
         ensures answer { (s : SessionM) → session_at (model self.old) place ≡ Some s → (id : SessionIdM) → place_of (model self.old) id ≡ Some place → calling result (model self.new) ≡ retarget_in (model self.old) id target s }
         ensures state { (s : SessionM) → session_at (model self.old) place ≡ Some s → (id : SessionIdM) → place_of (model self.old) id ≡ Some place → model self.new ≡ after_call (model self.old) (retarget_in (model self.old) id target s) }
     {
@@ -125,7 +112,7 @@ impl Server {
             return Err(Refusal::HighTarget);
         }
         let slots = target as usize + 1;
-        if self.free_trays() < self.sessions[place].shut_below(slots) {
+        if self.free_trays() < self.session(place).shut_below(slots) {
             return Err(Refusal::FewTrays);
         }
         self.open_slots(place, slots);
@@ -138,21 +125,8 @@ impl Server {
         ensures answer { calling result (model self.new) ≡ retarget_session (model self.old) (id_model id) target }
         ensures state { model self.new ≡ after_call (model self.old) (retarget_session (model self.old) (id_model id) target) }
     {
-        match self.find(id) {
-            None => Err(Refusal::NotStanding),
-            Some(place) => self.retarget_at(place, target),
-        }
-    }
-
-    // A session that has no open slot stands no more.
-    fn vacate(&mut self, place: usize)
-        requires within { place < 8 }
-        requires shut { open_slots (session_at (model self.old) place) ≡ 0 }
-        ensures { model self.new ≡ vacated (model self.old) place }
-    {
-        let mut session = self.sessions[place];
-        session.standing = false;
-        self.sessions[place] = session;
+        let place = self.find(id).ok_or(Refusal::NotStanding)?;
+        self.retarget_at(place, target)
     }
 
     /// Closes a session: its trays are free, and what was set aside there is gone.
@@ -160,13 +134,9 @@ impl Server {
         ensures answer { calling result (model self.new) ≡ close_session (model self.old) (id_model id) }
         ensures state { model self.new ≡ after_call (model self.old) (close_session (model self.old) (id_model id)) }
     {
-        match self.find(id) {
-            None => Err(Refusal::NotStanding),
-            Some(place) => {
-                self.free_slots(place);
-                self.vacate(place);
-                Ok(())
-            }
-        }
+        let place = self.find(id).ok_or(Refusal::NotStanding)?;
+        self.free_slots(place);
+        self.sessions[place.get()] = None;
+        Ok(())
     }
 }

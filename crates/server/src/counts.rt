@@ -1,44 +1,31 @@
-ghost use Rattle.std.specs.Prelude.{◌≡◌, ◌≤◌, length, sum_by};
-ghost use Rattle.server.specs.Counts.{working_calls, works, slots_working};
+ghost use Rattle.std.specs.Prelude.{◌≡◌, ◌^◌, ◌<◌, ◌≤◌, sum_by};
+ghost use Rattle.server.specs.Counts.{working_calls, slots_working};
 ghost use Rattle.server.specs.Models.{model};
 
-use crate::records::{Session, Slot};
+use crate::records::Session;
 use crate::state::Server;
-use slots::{Test, count};
 
-#[derive(Drop)]
-struct Working;
-
-impl Test<Slot> for Working {
-    ghost passes = { λ _ x. works x };
-
-    fn test(&self, item: &Slot) -> bool {
-        item.last.is_working()
-    }
-}
-
-impl Session {
-    // At how many slots a call is in progress; none where no session stands.
-    fn working(&self) -> usize
-        ensures low { result ≤ 16 }
-        ensures value { result ≡ slots_working self.now }
-    {
-        if !self.standing {
-            return 0;
-        }
-        count(&self.slots, &Working)
-    }
-}
-
-fn working_in(sessions: &[Session]) -> usize
-    requires { length sessions.now ≤ 8 }
-    ensures { result ≡ sum_by slots_working sessions.now }
+// At how many slots of a place a call is in progress; none where no session stands.
+// The bound is told here so that the sum over places fits; a type for a count of slots would end where sums begin.
+fn working_in(place: &Option<Session>) -> usize
+    ensures low { result ≤ 16 }
+    ensures value { result ≡ slots_working place.now }
 {
-    let mut total = 0;
-    for i in 0..sessions.len() {
-        total += sessions[i].working();
-    }
-    total
+    let Some(session) = place else {
+        return 0;
+    };
+    session
+        .slots
+        .iter()
+        .filter(|slot| slot.last.is_working())
+        .count()
+}
+
+fn working_calls(places: &[Option<Session>]) -> usize
+    requires { sum_by slots_working places.now < 2 ^ 32 }
+    ensures { result ≡ sum_by slots_working places.now }
+{
+    places.iter().map(|place| working_in(place)).sum()
 }
 
 impl Server {
@@ -46,6 +33,6 @@ impl Server {
     pub fn in_progress(&self) -> usize
         ensures { result ≡ working_calls (model self.now) }
     {
-        working_in(&self.sessions)
+        working_calls(&self.sessions)
     }
 }

@@ -1,28 +1,20 @@
-ghost use Rattle.std.specs.Prelude.{◌≡◌, ℕ, ◌<◌, ◌≤◌, true, false, ◌&&◌, List, [], length, nat_lt};
+ghost use Rattle.std.specs.Prelude.{◌≡◌, ℕ, ◌≤◌, ◌&&◌, cond, List, length, None, nat_lt};
 ghost use Rattle.wire.specs.Models.{request_model};
-ghost use Rattle.server.specs.Server.{new_slot, is_working, is_same, judge_last, judge_repeat, is_repeat, is_new, is_bare, judge_new, bad_highest, judge, accepted, with_open};
-ghost use Rattle.server.specs.Models.{held, last_model, slot_model, verdict_model};
-ghost use Rattle.server.specs.Places.{concluded, emptied};
+ghost use Rattle.server.specs.Server.{new_slot, is_working, is_same, judge_last, judge_repeat, is_repeat, is_new, is_bare, is_kept, judge_new, bad_highest, judge, accepted};
+ghost use Rattle.server.specs.Trays.{no_tray, tray_at};
+ghost use Rattle.server.specs.Models.{last_model, slot_model, entry_model, verdict_model};
+ghost use Rattle.server.specs.Places.{concluded};
 
 use crate::answers::{Outcome, Verdict};
-use crate::bodies::same;
-use crate::records::{Body, Last, Slot, Tray};
-use slots::next_number;
+use crate::records::{Entry, Last, Slot, Tray, TrayId};
+use slots::{Body, next_number};
 use wire::{Request, Status};
 
 impl Last {
     pub(crate) fn is_working(self) -> bool
         ensures { (b : List ℕ) → result ≡ is_working (last_model self b) }
     {
-        match self {
-            Last::InProgress => true,
-            Last::Never
-            | Last::Kept {
-                highest: _,
-                target: _,
-            }
-            | Last::NotKept => false,
-        }
+        matches!(self, Last::InProgress)
     }
 }
 
@@ -33,58 +25,79 @@ fn bad_highest(request: Request<'_>) -> bool
 }
 
 impl Slot {
-    pub(crate) fn blank() -> Slot
-        ensures shut { result.live ≡ false }
-        ensures value { (t : Tray) → slot_model t result ≡ new_slot }
+    // Never used. By hand and not derived, since what it means has to be told.
+    pub(crate) fn new() -> Slot
+        ensures shut { result.tray ≡ None }
+        ensures value { slot_model no_tray result ≡ new_slot }
     {
         Slot {
-            live: false,
-            tray: 0,
+            tray: None,
             number: 0,
             highest: 0,
             keep: false,
-            asked: 0,
-            answered: 0,
             last: Last::Never,
         }
     }
 
-    fn is_same(&self, tray: &Tray, request: Request<'_>) -> bool
-        ensures { result ≡ is_same (slot_model tray.now self.now) (request_model request.entry) }
+    // The slot with a tray; one that opens keeps all else.
+    pub(crate) fn opened(mut self, tray: Option<TrayId>) -> Slot
+        ensures { result ≡ record self { tray = tray } }
     {
-        self.highest == request.highest
-            && self.keep == request.keep
-            && same(&tray.request[0..self.asked], request.body)
+        self.tray = tray;
+        self
     }
 
-    fn judge_last(&self, tray: &Tray) -> Verdict
-        ensures { verdict_model result ≡ judge_last (slot_model tray.now self.now).last }
+    // The slot with its tray, or with an empty one where it is shut.
+    pub(crate) fn entry(self, trays: &[Tray]) -> Entry
+        requires { length trays.now ≡ 64 }
+        ensures slot { result.slot ≡ self }
+        ensures tray { result.tray ≡ tray_at trays.now self.tray }
     {
-        match self.last {
+        let tray = match self.tray {
+            Some(tray) => trays[tray.get()],
+            None => Tray::free(),
+        };
+        Entry { slot: self, tray }
+    }
+}
+
+impl Entry {
+    fn is_same(&self, request: Request<'_>) -> bool
+        ensures { result ≡ is_same (entry_model self.now) (request_model request.entry) }
+    {
+        self.slot.highest == request.highest
+            && self.slot.keep == request.keep
+            && self.tray.request.as_slice() == request.body
+    }
+
+    fn judge_last(&self) -> Verdict
+        ensures { verdict_model result ≡ judge_last (entry_model self.now).last }
+    {
+        match self.slot.last {
             Last::Never | Last::NotKept => Verdict::Refuse(Status::RetryUncachedRep),
             Last::InProgress => Verdict::Refuse(Status::Delay),
             Last::Kept { highest, target } => Verdict::Repeat(Outcome {
                 highest,
                 target,
-                body: Body::copied(&tray.reply[0..self.answered]),
+                body: self.tray.reply,
             }),
         }
     }
 
-    fn judge_repeat(&self, tray: &Tray, request: Request<'_>) -> Verdict
-        ensures { verdict_model result ≡ judge_repeat (slot_model tray.now self.now) (request_model request.entry) }
+    fn judge_repeat(&self, request: Request<'_>) -> Verdict
+        ensures { verdict_model result ≡ judge_repeat (entry_model self.now) (request_model request.entry) }
     {
-        if self.is_same(tray, request) {
-            self.judge_last(tray)
+        if self.is_same(request) {
+            self.judge_last()
         } else {
             Verdict::Refuse(Status::SeqFalseRetry)
         }
     }
 
-    fn judge_new(&self, tray: &Tray, request: Request<'_>) -> Verdict
-        ensures { verdict_model result ≡ judge_new (slot_model tray.now self.now) (request_model request.entry) }
+    fn judge_new(&self, request: Request<'_>) -> Verdict
+        ensures { verdict_model result ≡ judge_new (entry_model self.now) (request_model request.entry) }
     {
-        if !self.live {
+        if self.slot.tray.is_none() {
             return Verdict::Refuse(Status::BadSlot);
         }
         if bad_highest(request) {
@@ -93,112 +106,77 @@ impl Slot {
         Verdict::New
     }
 
-    fn is_repeat(&self, tray: &Tray, request: Request<'_>) -> bool
-        ensures { result ≡ is_repeat (slot_model tray.now self.now) (request_model request.entry) }
+    fn is_repeat(&self, request: Request<'_>) -> bool
+        ensures { result ≡ is_repeat (entry_model self.now) (request_model request.entry) }
     {
-        request.number == self.number && request.number != 0
+        request.number == self.slot.number && request.number != 0
     }
 
-    fn is_new(&self, tray: &Tray, request: Request<'_>) -> bool
-        ensures { result ≡ is_new (slot_model tray.now self.now) (request_model request.entry) }
+    fn is_new(&self, request: Request<'_>) -> bool
+        ensures { result ≡ is_new (entry_model self.now) (request_model request.entry) }
     {
-        match next_number(self.number) {
-            Some(next) => request.number == next && !self.last.is_working(),
-            None => false,
-        }
+        next_number(self.slot.number) == Some(request.number) && !self.slot.last.is_working()
     }
 
     // The decision on a sequence number.
-    pub(crate) fn judge(&self, tray: &Tray, request: Request<'_>) -> Verdict
-        ensures { verdict_model result ≡ judge (slot_model tray.now self.now) (request_model request.entry) }
+    pub(crate) fn judge(&self, request: Request<'_>) -> Verdict
+        ensures { verdict_model result ≡ judge (entry_model self.now) (request_model request.entry) }
     {
-        if self.is_repeat(tray, request) {
-            return self.judge_repeat(tray, request);
+        if self.is_repeat(request) {
+            return self.judge_repeat(request);
         }
-        if self.is_new(tray, request) {
-            return self.judge_new(tray, request);
+        if self.is_new(request) {
+            return self.judge_new(request);
         }
         Verdict::Refuse(Status::SeqMisordered)
     }
 
-    // A new call is in progress here.
-    pub(crate) fn accept(&mut self, tray: &mut Tray, request: Request<'_>)
-        requires { (self.old.live ≡ true) × (length request.body.now ≤ 256) }
-        ensures slot { slot_model tray.new self.new ≡ accepted (slot_model tray.old self.old) (request_model request.entry) }
-        ensures live { self.new.live ≡ self.old.live }
-        ensures tray { self.new.tray ≡ self.old.tray }
+    // A new call is in progress.
+    pub(crate) fn accept(&mut self, request: Request<'_>)
+        requires { length request.body.now ≤ 256 }
+        ensures value { entry_model self.new ≡ accepted (entry_model self.old) (request_model request.entry) }
+        ensures tray { self.new.slot.tray ≡ self.old.slot.tray }
+        ensures owner { self.new.tray.owner ≡ self.old.tray.owner }
     {
-        tray.put_request(request.body);
-        self.number = request.number;
-        self.highest = request.highest;
-        self.keep = request.keep;
-        self.asked = request.body.len();
-        self.last = Last::InProgress;
+        if let Some(body) = Body::copied(request.body) {
+            self.tray.request = body;
+        }
+        self.slot.number = request.number;
+        self.slot.highest = request.highest;
+        self.slot.keep = request.keep;
+        self.slot.last = Last::InProgress;
     }
 
     pub(crate) fn is_bare(&self) -> bool
-        ensures { (t : Tray) → result ≡ is_bare (slot_model t self.now) }
+        ensures { result ≡ is_bare (entry_model self.now) }
     {
-        self.asked == 0
+        self.tray.request.as_slice().is_empty()
     }
 
-    // Whether this slot, number `slot`, is open and its call shuts it when it runs.
+    // Whether the slot, number `slot`, is open and its call shuts it when it runs.
     pub(crate) fn shuts(&self, slot: usize, target: u32) -> bool
-        ensures { (t : Tray) → result ≡ (self.now.live && (is_bare (slot_model t self.now) && (nat_lt self.now.highest slot && nat_lt target slot))) }
+        ensures { result ≡ ((entry_model self.now).is_open && (is_bare (entry_model self.now) && (nat_lt self.now.slot.highest slot && nat_lt target slot))) }
     {
-        self.live && self.is_bare() && (self.highest as usize) < slot && (target as usize) < slot
+        self.slot.tray.is_some()
+            && self.is_bare()
+            && (self.slot.highest as usize) < slot
+            && (target as usize) < slot
     }
 
-    // The call without a body has run.
-    pub(crate) fn conclude_bare(&mut self, highest: u32, target: u32)
-        requires bare { self.old.asked ≡ 0 }
-        requires low { (highest ≤ 15) × (target ≤ 15) }
-        ensures slot { (t : Tray) → slot_model t self.new ≡ concluded (slot_model t self.old) highest target [] }
-        ensures live { self.new.live ≡ self.old.live }
-        ensures tray { self.new.tray ≡ self.old.tray }
+    // The call has run. Its outcome is kept if that was asked for, and always without a body.
+    pub(crate) fn conclude(&mut self, outcome: &Outcome)
+        ensures value { entry_model self.new ≡ concluded (entry_model self.old) outcome.now.highest outcome.now.target outcome.now.body }
+        ensures tray { self.new.slot.tray ≡ self.old.slot.tray }
+        ensures bytes { self.new.tray ≡ record self.old.tray { reply = cond (is_kept (entry_model self.old)) outcome.now.body self.old.tray.reply } }
     {
-        self.answered = 0;
-        self.last = Last::Kept { highest, target };
-    }
-
-    // The call with a body has run, and gave that reply.
-    pub(crate) fn conclude(&mut self, tray: &mut Tray, outcome: &Outcome)
-        requires { (self.old.live ≡ true) × (0 < self.old.asked) }
-        ensures slot { slot_model tray.new self.new ≡ concluded (slot_model tray.old self.old) outcome.now.highest outcome.now.target (held outcome.now.body) }
-        ensures live { self.new.live ≡ self.old.live }
-        ensures tray { self.new.tray ≡ self.old.tray }
-    {
-        if self.keep {
-            tray.put_reply(outcome.body.as_slice());
-            self.answered = outcome.body.len;
-            self.last = Last::Kept {
+        if self.is_bare() || self.slot.keep {
+            self.tray.reply = outcome.body;
+            self.slot.last = Last::Kept {
                 highest: outcome.highest,
                 target: outcome.target,
             };
         } else {
-            self.last = Last::NotKept;
+            self.slot.last = Last::NotKept;
         }
-    }
-
-    // The slot gets a tray and opens; a slot that opens keeps all else.
-    pub(crate) fn open(&mut self, tray: usize)
-        requires { (tray < 64) × (self.old.live ≡ false) }
-        ensures slot { (t u : Tray) → slot_model t self.new ≡ with_open true (slot_model u self.old) }
-        ensures live { self.new.live ≡ true }
-        ensures tray { self.new.tray ≡ tray }
-    {
-        self.live = true;
-        self.tray = tray;
-    }
-
-    // The slot shuts, and loses what its tray has of it.
-    pub(crate) fn empty(&mut self)
-        ensures slot { (t : Tray) → slot_model t self.new ≡ emptied (slot_model t self.old) }
-        ensures live { self.new.live ≡ false }
-        ensures tray { self.new.tray ≡ self.old.tray }
-    {
-        self.live = false;
-        self.asked = 0;
-        self.answered = 0;
     }
 }

@@ -9,12 +9,18 @@ use crate::state::Server;
 use service::Service;
 use wire::{Refusal, SessionId};
 
-/// A work order: a call taken into a slot and not yet run. It cannot be dropped or copied;
-/// one runs it or sets it aside, and is rid of it even if that is refused.
-pub struct WorkOrder {
+/// The call that a work order names.
+#[derive(Clone, Copy)]
+pub struct Call {
     pub(crate) id: SessionId,
     pub(crate) slot: u32,
     pub(crate) number: u32,
+}
+
+/// A work order: a call taken into a slot and not yet run. It cannot be dropped or copied;
+/// one runs it or sets it aside, and is rid of it even if that is refused.
+pub struct WorkOrder {
+    pub(crate) call: Call,
 }
 
 impl WorkOrder {
@@ -24,15 +30,16 @@ impl WorkOrder {
         ensures state { model server.new ≡ server_after S.Service.model (model server.old) (run_work S.Service.model (S.Service.content service.old) (model server.old) (work_model self)) }
         ensures content { S.Service.content service.new ≡ content_after S.Service.model (S.Service.content service.old) (run_work S.Service.model (S.Service.content service.old) (model server.old) (work_model self)) }
     {
-        let WorkOrder { id, slot, number } = self;
-        server.run_named(id, slot, number, service)
+        let WorkOrder { call } = self;
+        let spot = server.in_hand(call)?;
+        Ok(server.answer_at(&spot, call.id, service))
     }
 
     /// Sets the call aside, to be resumed later: it stays in progress.
     pub fn set_aside(self, server: &Server) -> Result<(), Refusal>
         ensures { answer_model itself result ≡ set_work_aside (model server.now) (work_model self) }
     {
-        let WorkOrder { id, slot, number } = self;
-        server.hold(id, slot, number)
+        let WorkOrder { call } = self;
+        server.in_hand(call).map(|_| ())
     }
 }

@@ -1,157 +1,201 @@
-ghost use Rattle.std.specs.Prelude.{◌≡◌, ◌+◌, ◌<◌, ◌≤◌, true, List, map, length, is_some, IfSome, sum_by, count_by};
+ghost use Rattle.std.specs.Prelude.{◌≡◌, ◌+◌, ◌≤◌, true, [], map, length, is_some, Some, None, count_by, slice_index_or};
+ghost use Rattle.std.specs.List.{position};
+ghost use Rattle.std.specs.Option.{is_none};
 ghost use Rattle.wire.specs.Models.{id_model, request_model};
-ghost use Rattle.server.specs.Server.{place_of, free_trays, with_open, accepted, new};
-ghost use Rattle.server.specs.Trays.{Marked, is_free, slots_open, stands_in, shut_in};
-ghost use Rattle.server.specs.Models.{model, session_model, bears};
-ghost use Rattle.server.specs.Places.{emptied, session_at, change_in, change_at, at_slot, at_front, shut_at, shut_below, verdict_at};
+ghost use Rattle.server.specs.Server.{SessionM, place_of, slot_at, free_trays, with_open, accepted, new};
+ghost use Rattle.server.specs.Trays.{Owned, is_free, shut_in, tray_at, tray_of};
+ghost use Rattle.server.specs.Models.{model, session_model, entry_model, bears};
+ghost use Rattle.server.specs.Places.{emptied, session_at, vacant_place, change_in, change_at, at_slot, at_front, shut_at, shut_below, verdict_at};
 
-use crate::records::{Owner, Session, Tray};
+use crate::records::{Entry, PlaceId, Session, Spot, Tray, TrayId};
 use crate::state::Server;
-use slots::{SLOTS, Test, lowest};
+use slots::{SLOTS, SlotId};
 use wire::{Request, SessionId};
 
-#[derive(Drop)]
-pub(crate) struct Bears {
-    pub(crate) id: SessionId,
+fn bears(place: &Option<Session>, id: SessionId) -> bool
+    ensures { result ≡ bears id place.now }
+{
+    place.as_ref().is_some_and(|session| session.id == id)
 }
 
-impl Test<Session> for Bears {
-    ghost passes = { λ t s. bears t.id s };
-
-    fn test(&self, item: &Session) -> bool {
-        item.standing && item.id.same(self.id)
-    }
+fn first_bearing(places: &[Option<Session>], id: SessionId) -> Option<usize>
+    ensures { result ≡ position (bears id) places.now }
+{
+    places.iter().position(|place| bears(place, id))
 }
 
-#[derive(Drop)]
-pub(crate) struct Free;
-
-impl Test<Option<Owner>> for Free {
-    ghost passes = { λ _ o. is_free o };
-
-    fn test(&self, item: &Option<Owner>) -> bool {
-        match *item {
-            None => true,
-            Some(_) => false,
-        }
-    }
+fn first_vacant(places: &[Option<Session>]) -> Option<usize>
+    ensures { result ≡ position is_none places.now }
+{
+    places.iter().position(|place| place.is_none())
 }
+
+// The lowest tray that no slot owns.
+fn free_tray(trays: &[Tray]) -> Option<usize>
+    ensures { result ≡ position is_free trays.now }
+{
+    trays.iter().position(|tray| tray.owner.is_none())
+}
+
+// The next three take both arrays apart: a method would have the server whole while slot and tray disagree.
+// What they need of the arrays stands in their clauses for that reason, and no struct around both is any plainer.
 
 // Shuts a slot and frees its tray.
-fn release(sessions: &mut [Session], owners: &mut [Option<Owner>], place: usize, slot: usize)
-    requires within { place < length sessions.old }
-    requires slot { slot < 16 }
-    requires stands { stands_in sessions.old place ≡ true }
-    requires whole { length owners.old ≡ 64 }
-    requires marked { Marked sessions.old owners.old }
-    requires counted { count_by is_free owners.old + sum_by slots_open sessions.old ≡ 64 }
-    ensures marked { Marked sessions.new owners.new }
-    ensures counted { count_by is_free owners.new + sum_by slots_open sessions.new ≡ 64 }
-    ensures state { (ts : List Tray) → map (session_model ts) sessions.new ≡ change_in (map (session_model ts) sessions.old) place (at_slot emptied slot) }
+fn release(sessions: &mut [Option<Session>], trays: &mut [Tray], spot: &Spot)
+    requires whole { (length sessions.old ≡ 8) × (length trays.old ≡ 64) }
+    requires owned { Owned sessions.old trays.old }
+    ensures owned { Owned sessions.new trays.new }
+    ensures state { map (session_model trays.new) sessions.new ≡ change_in (map (session_model trays.old) sessions.old) spot.now.place (at_slot emptied spot.now.slot) }
 {
-    let mut kept = sessions[place].slot(slot);
-    if kept.live {
-        owners[kept.tray] = None;
-        kept.empty();
-        sessions[place].put(slot, kept);
+    let Some(session) = &mut sessions[spot.place.get()] else {
+        return;
+    };
+    let i = spot.slot.get();
+    if let Some(tray) = session.slots[i].tray {
+        session.slots[i].tray = None;
+        trays[tray.get()] = Tray::free();
     }
 }
 
 // Opens a slot that is shut, with a free tray.
-fn claim(sessions: &mut [Session], owners: &mut [Option<Owner>], place: usize, slot: usize)
-    requires within { place < length sessions.old }
-    requires slot { slot < 16 }
-    requires stands { stands_in sessions.old place ≡ true }
-    requires whole { length owners.old ≡ 64 }
-    requires room { shut_in sessions.old place slot ≤ count_by is_free owners.old }
-    requires marked { Marked sessions.old owners.old }
-    requires counted { count_by is_free owners.old + sum_by slots_open sessions.old ≡ 64 }
-    ensures marked { Marked sessions.new owners.new }
-    ensures counted { count_by is_free owners.new + sum_by slots_open sessions.new ≡ 64 }
-    ensures free { count_by is_free owners.new + shut_in sessions.old place slot ≡ count_by is_free owners.old }
-    ensures state { (ts : List Tray) → map (session_model ts) sessions.new ≡ change_in (map (session_model ts) sessions.old) place (at_slot (with_open true) slot) }
+fn claim(sessions: &mut [Option<Session>], trays: &mut [Tray], spot: &Spot)
+    requires whole { (length sessions.old ≡ 8) × (length trays.old ≡ 64) }
+    requires owned { Owned sessions.old trays.old }
+    requires room { shut_in sessions.old spot.now.place spot.now.slot ≤ count_by is_free trays.old }
+    ensures owned { Owned sessions.new trays.new }
+    ensures free { count_by is_free trays.new + shut_in sessions.old spot.now.place spot.now.slot ≡ count_by is_free trays.old }
+    ensures state { map (session_model trays.new) sessions.new ≡ change_in (map (session_model trays.old) sessions.old) spot.now.place (at_slot (with_open true) spot.now.slot) }
 {
-    let mut kept = sessions[place].slot(slot);
-    if kept.live {
+    let Some(session) = &mut sessions[spot.place.get()] else {
+        return;
+    };
+    let i = spot.slot.get();
+    if session.slots[i].tray.is_some() {
         return;
     }
-    match lowest(owners, &Free) {
-        Some(tray) => {
-            owners[tray] = Some(Owner { place, slot });
-            kept.open(tray);
-            sessions[place].put(slot, kept);
-        }
-        None => {}
+    if let Some(tray) = free_tray(trays) {
+        session.slots[i] = session.slots[i].opened(TrayId::new(tray));
+        trays[tray] = Tray::owned(*spot);
+    }
+}
+
+// Puts a slot, with the tray that it has there.
+fn write(sessions: &mut [Option<Session>], trays: &mut [Tray], spot: &Spot, entry: Entry)
+    requires whole { (length sessions.old ≡ 8) × (length trays.old ≡ 64) }
+    requires owned { Owned sessions.old trays.old }
+    requires slot { tray_of sessions.old spot.now.place spot.now.slot ≡ entry.slot.tray }
+    requires owner { entry.tray.owner ≡ (tray_at trays.old entry.slot.tray).owner }
+    requires bare { entry.slot.tray ≡ None → (entry.tray.request ≡ []) × (entry.tray.reply ≡ []) }
+    ensures owned { Owned sessions.new trays.new }
+    ensures state { map (session_model trays.new) sessions.new ≡ change_in (map (session_model trays.old) sessions.old) spot.now.place (at_slot (λ _. entry_model entry) spot.now.slot) }
+{
+    let Some(session) = &mut sessions[spot.place.get()] else {
+        return;
+    };
+    let i = spot.slot.get();
+    session.slots[i] = entry.slot;
+    if let Some(tray) = entry.slot.tray {
+        trays[tray.get()] = entry.tray;
     }
 }
 
 impl Server {
     // The place at which the session of an id stands.
-    pub(crate) fn find(&self, id: SessionId) -> Option<usize>
-        ensures value { result ≡ place_of (model self.now) (id_model id) }
-        ensures low { IfSome result (λ p. p < 8) }
-        ensures stands { IfSome result (λ p. is_some (session_at (model self.now) p) ≡ true) }
+    pub(crate) fn find(&self, id: SessionId) -> Option<PlaceId>
+        ensures { result ≡ place_of (model self.now) (id_model id) }
     {
-        lowest(&self.sessions, &Bears { id })
+        PlaceId::new(first_bearing(&self.sessions, id)?)
+    }
+
+    // The lowest place at which none stands.
+    pub(crate) fn vacant(&self) -> Option<PlaceId>
+        ensures { result ≡ vacant_place (model self.now) }
+    {
+        PlaceId::new(first_vacant(&self.sessions)?)
+    }
+
+    // The session at a place where one stands. That it stands is a clause here and below: no reference to it
+    // can be handed on, since its slots change together with the trays.
+    pub(crate) fn session(&self, place: PlaceId) -> &Session
+        requires { is_some (session_at (model self.now) place) ≡ true }
+        ensures { slice_index_or self.now.sessions place None ≡ Some result.now }
+    {
+        self.sessions[place.get()].as_ref().unwrap()
     }
 
     // Shuts a slot and frees its tray.
-    pub(crate) fn free_slot(&mut self, place: usize, slot: usize)
-        requires within { place < 8 }
-        requires slot { slot < 16 }
-        requires stands { is_some (session_at (model self.old) place) ≡ true }
-        ensures { model self.new ≡ change_at (model self.old) place (at_slot emptied slot) }
+    pub(crate) fn free_slot(&mut self, spot: &Spot)
+        ensures { model self.new ≡ change_at (model self.old) spot.now.place (at_slot emptied spot.now.slot) }
     {
-        release(&mut self.sessions, &mut self.owners, place, slot);
+        release(&mut self.sessions, &mut self.trays, spot);
     }
 
     // Opens a slot that is shut, with a free tray.
-    pub(crate) fn open_slot(&mut self, place: usize, slot: usize)
-        requires within { place < 8 }
-        requires slot { slot < 16 }
-        requires stands { is_some (session_at (model self.old) place) ≡ true }
-        requires room { shut_at (model self.old) place slot ≤ free_trays (model self.old) }
-        ensures state { model self.new ≡ change_at (model self.old) place (at_slot (with_open true) slot) }
-        ensures free { free_trays (model self.new) + shut_at (model self.old) place slot ≡ free_trays (model self.old) }
+    pub(crate) fn open_slot(&mut self, spot: &Spot)
+        requires room { shut_at (model self.old) spot.now.place spot.now.slot ≤ free_trays (model self.old) }
+        ensures state { model self.new ≡ change_at (model self.old) spot.now.place (at_slot (with_open true) spot.now.slot) }
+        ensures free { free_trays (model self.new) + shut_at (model self.old) spot.now.place spot.now.slot ≡ free_trays (model self.old) }
     {
-        claim(&mut self.sessions, &mut self.owners, place, slot);
+        claim(&mut self.sessions, &mut self.trays, spot);
     }
 
     // Opens each of the first slots that is shut.
-    pub(crate) fn open_slots(&mut self, place: usize, count: usize)
-        requires within { place < 8 }
+    pub(crate) fn open_slots(&mut self, place: PlaceId, count: usize)
         requires few { count ≤ 16 }
-        requires stands { is_some (session_at (model self.old) place) ≡ true }
         requires room { shut_below (model self.old) place count ≤ free_trays (model self.old) }
         ensures { model self.new ≡ change_at (model self.old) place (at_front (with_open true) count) }
     {
+        // By number: each slot claims a tray of the server, which an iterator over the slots would keep lent.
         for i in 0..count {
-            self.open_slot(place, i);
+            if let Some(slot) = SlotId::new(i) {
+                self.open_slot(&Spot { place, slot });
+            }
         }
     }
 
     // Shuts every slot and frees its tray.
-    pub(crate) fn free_slots(&mut self, place: usize)
-        requires within { place < 8 }
-        requires stands { is_some (session_at (model self.old) place) ≡ true }
+    pub(crate) fn free_slots(&mut self, place: PlaceId)
         ensures { model self.new ≡ change_at (model self.old) place (at_front emptied 16) }
     {
+        // By number, as they are opened.
         for i in 0..SLOTS {
-            self.free_slot(place, i);
+            if let Some(slot) = SlotId::new(i) {
+                self.free_slot(&Spot { place, slot });
+            }
         }
     }
 
+    // The slot at a spot, with its tray.
+    pub(crate) fn entry(&self, spot: &Spot) -> Entry
+        requires { is_some (session_at (model self.now) spot.now.place) ≡ true }
+        ensures value { (s : SessionM) → session_at (model self.now) spot.now.place ≡ Some s → slot_at s spot.now.slot ≡ entry_model result }
+        ensures slot { tray_of self.now.sessions spot.now.place spot.now.slot ≡ result.slot.tray }
+        ensures tray { result.tray ≡ tray_at self.now.trays result.slot.tray }
+    {
+        self.session(spot.place).slots[spot.slot.get()].entry(&self.trays)
+    }
+
+    // Puts a slot, with the tray that it has there.
+    pub(crate) fn put(&mut self, spot: &Spot, entry: Entry)
+        requires slot { tray_of self.old.sessions spot.now.place spot.now.slot ≡ entry.slot.tray }
+        requires owner { entry.tray.owner ≡ (tray_at self.old.trays entry.slot.tray).owner }
+        requires bare { entry.slot.tray ≡ None → (entry.tray.request ≡ []) × (entry.tray.reply ≡ []) }
+        ensures { model self.new ≡ change_at (model self.old) spot.now.place (at_slot (λ _. entry_model entry) spot.now.slot) }
+    {
+        write(&mut self.sessions, &mut self.trays, spot, entry);
+    }
+
     // A new call is in progress.
-    pub(crate) fn accept_at(&mut self, place: usize, request: Request<'_>)
-        requires within { place < 8 }
+    pub(crate) fn accept_at(&mut self, place: PlaceId, request: Request<'_>)
         requires fresh { verdict_at (model self.old) place (request_model request) ≡ new }
         requires short { length request.body.now ≤ 256 }
         ensures { model self.new ≡ change_at (model self.old) place (at_slot (λ x. accepted x (request_model request.entry)) request.entry.slot) }
     {
-        let i = request.slot as usize;
-        let mut kept = self.sessions[place].slot(i);
-        let tray = kept.tray;
-        kept.accept(&mut self.trays[tray], request);
-        self.sessions[place].put(i, kept);
+        if let Some(slot) = SlotId::new(request.slot as usize) {
+            let spot = Spot { place, slot };
+            let mut entry = self.entry(&spot);
+            entry.accept(request);
+            self.put(&spot, entry);
+        }
     }
 }

@@ -1,34 +1,32 @@
-ghost use Rattle.std.specs.Prelude.{◌≡◌, ◌<◌, ◌≤◌, false, length};
+ghost use Rattle.std.specs.Prelude.{◌≡◌, ◌≤◌, length};
 ghost use Rattle.server.specs.Fits.{kept_highest, kept_target};
 
-use slots::SLOTS;
+use crate::state::{PLACES, TRAYS};
+use common::Index;
+use slots::{Body, SLOTS, SlotId};
 use wire::SessionId;
 
-/// The longest body of a request or a reply.
-pub const LONGEST: usize = 256;
+/// The number of a place at which a session can stand.
+pub type PlaceId = Index<PLACES>;
 
-/// At most 256 bytes.
+/// The number of a tray.
+pub type TrayId = Index<TRAYS>;
+
+/// Where a slot is: the place of its session, and its number there.
+/// It goes by reference: taken by value beside both arrays it gets no generated proof.
 #[derive(Clone, Copy)]
-pub struct Body {
-    pub(crate) bytes: [u8; LONGEST],
-    pub(crate) len: usize,
-    ghost fits: { len ≤ 256 },
+pub struct Spot {
+    pub(crate) place: PlaceId,
+    pub(crate) slot: SlotId,
 }
 
-/// A tray: storage for a request body and a kept reply body, owned by one open slot.
-/// How long they are stands in the slot: one that opens again finds a stranger's bytes here.
+/// A tray: the request body and the kept reply body of the slot that owns it, if one does.
+/// Tray and slot name each other by number, since 128 slots share 64 trays and nothing here has memory of its own.
 #[derive(Clone, Copy)]
 pub struct Tray {
-    pub(crate) request: [u8; LONGEST],
-    pub(crate) reply: [u8; LONGEST],
-    ghost whole: { (length request ≡ 256) × (length reply ≡ 256) },
-}
-
-/// The slot that owns a tray: the place of its session, and its number there.
-#[derive(Clone, Copy)]
-pub struct Owner {
-    pub(crate) place: usize,
-    pub(crate) slot: usize,
+    pub(crate) owner: Option<Spot>,
+    pub(crate) request: Body,
+    pub(crate) reply: Body,
 }
 
 /// What is kept of a slot's last call.
@@ -43,26 +41,25 @@ pub enum Last {
 /// A slot of a session: the head of its last request, and what is kept of that call.
 #[derive(Clone, Copy)]
 pub struct Slot {
-    // open, so that it owns the tray
-    pub(crate) live: bool,
-    pub(crate) tray: usize,
+    // an open slot owns one; only a call without a body shuts its slot, so there is nothing to keep
+    pub(crate) tray: Option<TrayId>,
     pub(crate) number: u32,
     pub(crate) highest: u32,
     pub(crate) keep: bool,
-    // the lengths of the bodies in the tray
-    pub(crate) asked: usize,
-    pub(crate) answered: usize,
     pub(crate) last: Last,
-    ghost fits: { (tray < 64) × (asked ≤ 256) × (answered ≤ 256) },
     ghost low: { (kept_highest last ≤ 15) × (kept_target last ≤ 15) },
-    // only a call without a body shuts its slot
-    ghost bare: { live ≡ false → (asked ≡ 0) × (answered ≡ 0) },
 }
 
-/// A place for a session, and the session that stands there, if one does.
+/// An entry of the reply cache: a slot with the tray that it owns, or with an empty one where it is shut.
+#[derive(Clone, Copy)]
+pub struct Entry {
+    pub(crate) slot: Slot,
+    pub(crate) tray: Tray,
+}
+
+/// A session that stands. Its target is the number that replies carry; open and retarget refuse one above 15.
 #[derive(Clone, Copy)]
 pub struct Session {
-    pub(crate) standing: bool,
     pub(crate) id: SessionId,
     pub(crate) target: u32,
     pub(crate) slots: [Slot; SLOTS],

@@ -1,168 +1,106 @@
-ghost use Rattle.std.specs.Prelude.{◌≡◌, ◌<◌, ◌≤◌, true, [], is_some, Some, Ok};
-ghost use Rattle.wire.specs.Models.{id_model, itself, answer_model};
+ghost use Rattle.std.specs.Prelude.{◌≡◌, true, [], is_some, Some, Ok, IfOk};
+ghost use Rattle.wire.specs.Models.{id_model, answer_model};
 ghost use Rattle.slots.specs.Slots.{highest_at};
-ghost use Rattle.server.specs.Server.{SlotM, SessionM, place_of, slot_at, run_slot, run_work, resume_work, set_work_aside, server_after, content_after, run_highest, run_bytes, run_content, with_slot, finished};
-ghost use Rattle.server.specs.Models.{model, held};
-ghost use Rattle.server.specs.Calls.{running};
-ghost use Rattle.server.specs.Places.{concluded, session_at, change_at, at_slot, works_in, bare_in, asks_in, settled, ended};
+ghost use Rattle.server.specs.Server.{SlotM, SessionM, place_of, slot_at, run_slot, resume_work, set_work_aside, server_after, content_after, run_highest, run_bytes, run_content, with_slot, finished};
+ghost use Rattle.server.specs.Models.{model};
+ghost use Rattle.server.specs.Calls.{call_model, running};
+ghost use Rattle.server.specs.Places.{Holds, concluded, session_at, change_at, at_slot, works_in, bare_in, settled, ended};
 
 use crate::answers::{Answer, Outcome};
-use crate::records::Body;
+use crate::bodies::reply_of;
+use crate::orders::Call;
+use crate::records::Spot;
 use crate::state::Server;
 use service::Service;
 use wire::{Refusal, SessionId};
 
 impl Server {
-    // Shuts a slot whose call in progress is bare and asks for it.
-    fn settle(&mut self, place: usize, slot: usize)
-        requires within { place < 8 }
-        requires works { works_in (model self.old) place slot ≡ true }
-        ensures { model self.new ≡ change_at (model self.old) place (settled slot) }
+    // Where the call that a work order names is in progress.
+    pub(crate) fn in_hand(&self, call: Call) -> Result<Spot, Refusal>
+        ensures answer { answer_model (λ _. tt) result ≡ set_work_aside (model self.now) (call_model call) }
+        ensures there { IfOk result (λ at. Holds (model self.now) (call_model call) at.place at.slot) }
     {
-        let kept = self.sessions[place].slot(slot);
-        let target = self.sessions[place].target;
-        if kept.shuts(slot, target) {
-            self.free_slot(place, slot);
+        let place = self.find(call.id).ok_or(Refusal::NoWork)?;
+        let session = self.session(place);
+        let slot = session.working_slot(call.slot).ok_or(Refusal::NoWork)?;
+        if session.slots[slot.get()].number != call.number {
+            return Err(Refusal::NoWork);
+        }
+        Ok(Spot { place, slot })
+    }
+
+    // Shuts a slot whose call in progress is bare and asks for it. That a call is in progress is a clause here and below:
+    // a spot that said so by its type would have to be made anew after each change of the server.
+    fn settle(&mut self, spot: &Spot)
+        requires { works_in (model self.old) spot.now.place spot.now.slot ≡ true }
+        ensures { model self.new ≡ change_at (model self.old) spot.now.place (settled spot.now.slot) }
+    {
+        let target = self.session(spot.place).target;
+        if self.entry(spot).shuts(spot.slot.get(), target) {
+            self.free_slot(spot);
         }
     }
 
-    // What the service replies to a slot's call.
-    fn reply_to<S: Service>(&self, place: usize, slot: usize, service: &mut S) -> Body
-        requires within { place < 8 }
-        requires slot { slot < 16 }
-        ensures reply { (s : SessionM) → session_at (model self.now) place ≡ Some s → held result ≡ S.Service.model.reply (S.Service.content service.old) (slot_at s slot).body }
-        ensures content { (s : SessionM) → session_at (model self.now) place ≡ Some s → S.Service.content service.new ≡ S.Service.model.next (S.Service.content service.old) (slot_at s slot).body }
+    // Keeps the outcome of a slot's call, if that was asked for or the call is bare.
+    fn keep(&mut self, spot: &Spot, outcome: &Outcome)
+        requires stands { is_some (session_at (model self.old) spot.now.place) ≡ true }
+        requires bare { bare_in (model self.old) spot.now.place spot.now.slot ≡ true → outcome.now.body ≡ [] }
+        ensures { model self.new ≡ change_at (model self.old) spot.now.place (at_slot (λ x. concluded x outcome.now.highest outcome.now.target outcome.now.body) spot.now.slot) }
     {
-        let kept = self.sessions[place].slot(slot);
-        self.trays[kept.tray].asked_of(kept.asked, service)
+        let mut entry = self.entry(spot);
+        entry.conclude(outcome);
+        self.put(spot, entry);
     }
 
-    // Keeps the outcome of a bare call.
-    fn keep_bare(&mut self, place: usize, slot: usize, highest: u32, target: u32)
-        requires within { place < 8 }
-        requires slot { slot < 16 }
-        requires bare { bare_in (model self.old) place slot ≡ true }
-        requires low { (highest ≤ 15) × (target ≤ 15) }
-        ensures { model self.new ≡ change_at (model self.old) place (at_slot (λ x. concluded x highest target []) slot) }
+    // Runs a slot's call, on the service unless it is bare, and keeps its outcome.
+    fn end<S: Service>(&mut self, spot: &Spot, service: &mut S) -> Outcome
+        requires { is_some (session_at (model self.old) spot.now.place) ≡ true }
+        ensures outcome { (s : SessionM) → session_at (model self.old) spot.now.place ≡ Some s → (result.highest ≡ highest_at (λ (x : SlotM). x.is_open) s.slots 0 0) × (result.target ≡ s.target) × (result.body ≡ run_bytes S.Service.model (S.Service.content service.old) (slot_at s spot.now.slot)) }
+        ensures state { model self.new ≡ change_at (model self.old) spot.now.place (ended spot.now.slot result.body) }
+        ensures content { (s : SessionM) → session_at (model self.old) spot.now.place ≡ Some s → S.Service.content service.new ≡ run_content S.Service.model (S.Service.content service.old) (slot_at s spot.now.slot) }
     {
-        let mut kept = self.sessions[place].slot(slot);
-        kept.conclude_bare(highest, target);
-        self.sessions[place].put(slot, kept);
-    }
-
-    // Keeps the outcome of a call with a body, if that was asked for.
-    fn keep_outcome(&mut self, place: usize, slot: usize, outcome: &Outcome)
-        requires within { place < 8 }
-        requires slot { slot < 16 }
-        requires asks { asks_in (model self.old) place slot ≡ true }
-        ensures { model self.new ≡ change_at (model self.old) place (at_slot (λ x. concluded x outcome.now.highest outcome.now.target (held outcome.now.body)) slot) }
-    {
-        let mut kept = self.sessions[place].slot(slot);
-        let tray = kept.tray;
-        kept.conclude(&mut self.trays[tray], outcome);
-        self.sessions[place].put(slot, kept);
-    }
-
-    // Runs a slot's call, on the service unless it is bare.
-    fn end<S: Service>(&mut self, place: usize, slot: usize, service: &mut S) -> Outcome
-        requires within { place < 8 }
-        requires slot { slot < 16 }
-        requires stands { is_some (session_at (model self.old) place) ≡ true }
-        ensures outcome { (s : SessionM) → session_at (model self.old) place ≡ Some s → (result.highest ≡ highest_at (λ (x : SlotM). x.is_open) s.slots 0 0) × (result.target ≡ s.target) × (held result.body ≡ run_bytes S.Service.model (S.Service.content service.old) (slot_at s slot)) }
-        ensures state { model self.new ≡ change_at (model self.old) place (ended slot (held result.body)) }
-        ensures content { (s : SessionM) → session_at (model self.old) place ≡ Some s → S.Service.content service.new ≡ run_content S.Service.model (S.Service.content service.old) (slot_at s slot) }
-    {
-        let highest = self.sessions[place].highest_open();
-        let target = self.sessions[place].target;
-        let kept = self.sessions[place].slot(slot);
-        if kept.is_bare() {
-            self.keep_bare(place, slot, highest, target);
-            return Outcome {
-                highest,
-                target,
-                body: Body::empty(),
-            };
-        }
-        let body = self.reply_to(place, slot, service);
+        let session = self.session(spot.place);
+        let highest = session.highest_open();
+        let target = session.target;
+        let entry = self.entry(spot);
+        let body = reply_of(service, entry.tray.request.as_slice());
         let outcome = Outcome {
             highest,
             target,
             body,
         };
-        self.keep_outcome(place, slot, &outcome);
+        self.keep(spot, &outcome);
         outcome
     }
 
     // Runs the call in progress at a slot.
-    pub(crate) fn run_at<S: Service>(
-        &mut self,
-        place: usize,
-        slot: usize,
-        service: &mut S,
-    ) -> Outcome
-        requires within { place < 8 }
-        requires works { works_in (model self.old) place slot ≡ true }
-        ensures outcome { (s : SessionM) → session_at (model self.old) place ≡ Some s → (result.highest ≡ run_highest s slot) × (result.target ≡ s.target) × (held result.body ≡ run_bytes S.Service.model (S.Service.content service.old) (slot_at s slot)) }
-        ensures state { model self.new ≡ change_at (model self.old) place (λ s. with_slot s slot (finished s slot (held result.body))) }
-        ensures content { (s : SessionM) → session_at (model self.old) place ≡ Some s → S.Service.content service.new ≡ run_content S.Service.model (S.Service.content service.old) (slot_at s slot) }
+    pub(crate) fn run_at<S: Service>(&mut self, spot: &Spot, service: &mut S) -> Outcome
+        requires { works_in (model self.old) spot.now.place spot.now.slot ≡ true }
+        ensures outcome { (s : SessionM) → session_at (model self.old) spot.now.place ≡ Some s → (result.highest ≡ run_highest s spot.now.slot) × (result.target ≡ s.target) × (result.body ≡ run_bytes S.Service.model (S.Service.content service.old) (slot_at s spot.now.slot)) }
+        ensures state { model self.new ≡ change_at (model self.old) spot.now.place (λ s. with_slot s spot.now.slot (finished s spot.now.slot result.body)) }
+        ensures content { (s : SessionM) → session_at (model self.old) spot.now.place ≡ Some s → S.Service.content service.new ≡ run_content S.Service.model (S.Service.content service.old) (slot_at s spot.now.slot) }
     {
-        self.settle(place, slot);
-        self.end(place, slot, service)
+        self.settle(spot);
+        self.end(spot, service)
     }
 
     // Runs the call in progress at a slot, and answers it.
-    fn answer_at<S: Service>(
+    pub(crate) fn answer_at<S: Service>(
         &mut self,
-        place: usize,
+        spot: &Spot,
         id: SessionId,
-        slot: u32,
         service: &mut S,
     ) -> Answer
-        requires within { place < 8 }
-        requires works { works_in (model self.old) place slot ≡ true }
-        ensures { (s : SessionM) → session_at (model self.old) place ≡ Some s → place_of (model self.old) (id_model id) ≡ Some place → running S.Service.model (Ok result) (model self.new) (S.Service.content service.new) ≡ Ok (run_slot S.Service.model (S.Service.content service.old) (model self.old) (id_model id) slot s) }
+        requires { works_in (model self.old) spot.now.place spot.now.slot ≡ true }
+        ensures { (s : SessionM) → session_at (model self.old) spot.now.place ≡ Some s → place_of (model self.old) (id_model id) ≡ Some spot.now.place → running S.Service.model (Ok result) (model self.new) (S.Service.content service.new) ≡ Ok (run_slot S.Service.model (S.Service.content service.old) (model self.old) (id_model id) spot.now.slot s) }
     {
-        let number = self.sessions[place].slot(slot as usize).number;
-        let outcome = self.run_at(place, slot as usize, service);
-        Answer::done(id, number, slot, outcome)
-    }
-
-    // Runs the call that a work order names.
-    pub(crate) fn run_named<S: Service>(
-        &mut self,
-        id: SessionId,
-        slot: u32,
-        number: u32,
-        service: &mut S,
-    ) -> Result<Answer, Refusal>
-        ensures answer { running S.Service.model result (model self.new) (S.Service.content service.new) ≡ run_work S.Service.model (S.Service.content service.old) (model self.old) (record { id = id_model id; slot = slot; number = number }) }
-        ensures state { model self.new ≡ server_after S.Service.model (model self.old) (run_work S.Service.model (S.Service.content service.old) (model self.old) (record { id = id_model id; slot = slot; number = number })) }
-        ensures content { S.Service.content service.new ≡ content_after S.Service.model (S.Service.content service.old) (run_work S.Service.model (S.Service.content service.old) (model self.old) (record { id = id_model id; slot = slot; number = number })) }
-    {
-        match self.find(id) {
-            None => Err(Refusal::NoWork),
-            Some(place) => {
-                if !self.sessions[place].in_hand(slot, number) {
-                    return Err(Refusal::NoWork);
-                }
-                Ok(self.answer_at(place, id, slot, service))
-            }
-        }
-    }
-
-    // The call that a work order names stays in progress.
-    pub(crate) fn hold(&self, id: SessionId, slot: u32, number: u32) -> Result<(), Refusal>
-        ensures { answer_model itself result ≡ set_work_aside (model self.now) (record { id = id_model id; slot = slot; number = number }) }
-    {
-        match self.find(id) {
-            None => Err(Refusal::NoWork),
-            Some(place) => {
-                if !self.sessions[place].in_hand(slot, number) {
-                    return Err(Refusal::NoWork);
-                }
-                Ok(())
-            }
-        }
+        let call = Call {
+            id,
+            slot: spot.slot.get() as u32,
+            number: self.entry(spot).slot.number,
+        };
+        let outcome = self.run_at(spot, service);
+        Answer::done(call, outcome)
     }
 
     /// Runs the call that was set aside at a slot.
@@ -176,14 +114,9 @@ impl Server {
         ensures state { model self.new ≡ server_after S.Service.model (model self.old) (resume_work S.Service.model (S.Service.content service.old) (model self.old) (id_model id) slot) }
         ensures content { S.Service.content service.new ≡ content_after S.Service.model (S.Service.content service.old) (resume_work S.Service.model (S.Service.content service.old) (model self.old) (id_model id) slot) }
     {
-        match self.find(id) {
-            None => Err(Refusal::NotStanding),
-            Some(place) => {
-                if !self.sessions[place].works(slot) {
-                    return Err(Refusal::NoWork);
-                }
-                Ok(self.answer_at(place, id, slot, service))
-            }
-        }
+        let place = self.find(id).ok_or(Refusal::NotStanding)?;
+        let session = self.session(place);
+        let slot = session.working_slot(slot).ok_or(Refusal::NoWork)?;
+        Ok(self.answer_at(&Spot { place, slot }, id, service))
     }
 }

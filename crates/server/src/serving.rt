@@ -1,16 +1,17 @@
-ghost use Rattle.std.specs.Prelude.{◌≡◌, ◌<◌, ◌≤◌, true, length, is_some, Some, Ok};
+ghost use Rattle.std.specs.Prelude.{◌≡◌, ◌≤◌, true, length, is_some, Some, Ok};
 ghost use Rattle.wire.specs.Wire.{refusing};
 ghost use Rattle.wire.specs.Models.{id_model, request_model, status_number};
 ghost use Rattle.server.specs.Server.{SessionM, Serving, place_of, verdict, serve_by, serve_read, serve, outcome_reply};
-ghost use Rattle.server.specs.Models.{model, held, answer_model, verdict_model};
+ghost use Rattle.server.specs.Models.{model, answer_model};
 ghost use Rattle.server.specs.Places.{session_at};
 ghost use Rattle.server.specs.Calls.{served_model};
 
 use crate::answers::{Answer, Outcome, Served, Verdict};
-use crate::orders::WorkOrder;
-use crate::records::Body;
+use crate::orders::{Call, WorkOrder};
+use crate::records::PlaceId;
 use crate::state::Server;
-use wire::{Request, SessionId, Status, read_request};
+use slots::Body;
+use wire::{Refusal, Request, Status, read_request};
 
 impl Answer {
     // The reply to a request that carries nothing but a status.
@@ -28,15 +29,15 @@ impl Answer {
         }
     }
 
-    // The reply that carries an outcome.
-    pub(crate) fn done(id: SessionId, number: u32, slot: u32, outcome: Outcome) -> Answer
-        ensures { answer_model result ≡ outcome_reply (id_model id) number slot outcome.highest outcome.target (held outcome.body) }
+    // The reply that carries the outcome of a call.
+    pub(crate) fn done(call: Call, outcome: Outcome) -> Answer
+        ensures { answer_model result ≡ outcome_reply (id_model call.id) call.number call.slot outcome.highest outcome.target outcome.body }
     {
         Answer {
             status: Status::Ok,
-            id,
-            number,
-            slot,
+            id: call.id,
+            number: call.number,
+            slot: call.slot,
             highest: outcome.highest,
             target: outcome.target,
             body: outcome.body,
@@ -45,33 +46,24 @@ impl Answer {
 }
 
 impl Server {
-    // What the session at a place says of a request.
-    fn judge_at(&self, place: usize, request: Request<'_>) -> Verdict
-        requires { place < 8 }
-        ensures { (s : SessionM) → session_at (model self.now) place ≡ Some s → verdict_model result ≡ verdict s (request_model request.entry) }
-    {
-        self.sessions[place].judge(&self.trays, request)
-    }
-
-    // Serves a request at the place of its session.
-    fn serve_at(&mut self, place: usize, request: Request<'_>) -> Served
-        requires within { place < 8 }
+    // Serves a request at the place of its session. That its body is short the reader tells; a request type of its own
+    // for that would be one more copy of every field.
+    fn serve_at(&mut self, place: PlaceId, request: Request<'_>) -> Served
         requires stands { is_some (session_at (model self.old) place) ≡ true }
         requires short { length request.body.now ≤ 256 }
-        ensures { (s : SessionM) → session_at (model self.old) place ≡ Some s → place_of (model self.old) (request_model request.entry).id ≡ Some place → ◌≡◌ {A = Serving} (record { answer = served_model result; after = model self.new }) (serve_by (verdict s (request_model request.entry)) (model self.old) s (request_model request.entry)) }
+        ensures { (s : SessionM) → session_at (model self.old) place ≡ Some s → place_of (model self.old) (request_model request.entry).id ≡ Some place → ◌≡◌ {A = Serving} (record { answer = served_model (Ok result); after = model self.new }) (serve_by (verdict s (request_model request.entry)) (model self.old) s (request_model request.entry)) }
     {
-        match self.judge_at(place, request) {
+        let call = Call {
+            id: request.id,
+            slot: request.slot,
+            number: request.number,
+        };
+        match self.session(place).judge(&self.trays, request) {
             Verdict::Refuse(status) => Served::Says(Answer::refusing(request, status)),
-            Verdict::Repeat(outcome) => {
-                Served::Old(Answer::done(request.id, request.number, request.slot, outcome))
-            }
+            Verdict::Repeat(outcome) => Served::Old(Answer::done(call, outcome)),
             Verdict::New => {
                 self.accept_at(place, request);
-                Served::Work(WorkOrder {
-                    id: request.id,
-                    slot: request.slot,
-                    number: request.number,
-                })
+                Served::Work(WorkOrder { call })
             }
         }
     }
@@ -79,7 +71,7 @@ impl Server {
     // Serves a request.
     fn handle(&mut self, request: Request<'_>) -> Served
         requires { length request.body.now ≤ 256 }
-        ensures { ◌≡◌ {A = Serving} (record { answer = served_model result; after = model self.new }) (serve_read (model self.old) (Ok (request_model request.entry))) }
+        ensures { ◌≡◌ {A = Serving} (record { answer = served_model (Ok result); after = model self.new }) (serve_read (model self.old) (Ok (request_model request.entry))) }
     {
         match self.find(request.id) {
             None => Served::Says(Answer::refusing(request, Status::BadSession)),
@@ -88,12 +80,10 @@ impl Server {
     }
 
     /// Serves any byte string.
-    pub fn serve(&mut self, bytes: &[u8]) -> Served
+    pub fn serve(&mut self, bytes: &[u8]) -> Result<Served, Refusal>
         ensures { ◌≡◌ {A = Serving} (record { answer = served_model result; after = model self.new }) (serve (model self.old) bytes.now) }
     {
-        match read_request(bytes) {
-            Ok(request) => self.handle(request),
-            Err(refusal) => Served::Fault(refusal),
-        }
+        let request = read_request(bytes)?;
+        Ok(self.handle(request))
     }
 }

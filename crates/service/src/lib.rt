@@ -13,6 +13,7 @@ pub trait Service {
     ghost lawful: { ServiceLaws model };
 
     /// Does the step on any bytes, writes the reply at the front of `out`, and says how long it is.
+    // The buffer is the caller's: what lies behind the reply stays, which a returned byte string could not promise.
     fn run(&mut self, body: &[u8], out: &mut [u8; 256]) -> usize
         ensures content { content self.new ≡ model.next (content self.old) body.now }
         ensures size { result ≡ length (model.reply (content self.old) body.now) }

@@ -1,26 +1,8 @@
--- The questions that a table is asked, one record further on; and what holds of their answers.
-use Rattle.std.proofs.Common.{◌≡◌, ℕ, zero, suc, ◌+◌, ◌<◌, ◌≤◌, Bool, true, false, cond, List, [], ◌∷◌, map, length, get_or, drop, Some, sym, refl, ap, ◌∙◌, arith}
-use Rattle.std.proofs.lemmas.List.{at_drop_more}
-use Rattle.std.proofs.lemmas.Bool.{cond-true, cond-false, cond_both}
+-- What holds of the answers to the questions that a table is asked.
+use Rattle.std.proofs.Common.{◌≡◌, ℕ, zero, suc, ◌+◌, ◌<◌, ◌≤◌, Bool, true, false, cond, List, [], ◌∷◌, ◌++◌, map, min, length, get_or, take, drop, Some, refl, ap, ◌∙◌, arith}
+use Rattle.std.proofs.lemmas.Bool.{cond_both}
 use Rattle.common.specs.Search.{lowest_at}
 use Rattle.slots.specs.Slots.{highest_at, front_changed}
-
-pub highest_more : {X : Type 0} (test : X → Bool) (xs : List X) (i best new : ℕ) (x : X) (b : Bool) → i < length xs → x ≡ get_or xs i x → b ≡ test x → new ≡ cond b i best → highest_at test (drop (i + 1) xs) (i + 1) new ≡ highest_at test (drop i xs) i best
-highest_more test xs i best new x b h r e n =
-    let step : highest_at test (drop i xs) i best ≡ highest_at test (drop (i + 1) xs) (i + 1) (cond (test (get_or xs i x)) i best) =
-    at_drop_more (λ ys. highest_at test ys i best) xs i x h
-    in
-    ap (λ m. highest_at test (drop (i + 1) xs) (i + 1) m) (n ∙ ap (λ t. cond t i best) (e ∙ ap test r)) ∙ sym step
-
-module _ {X : Type 0} (test : X → Bool) (xs : List X) (i : ℕ) (x : X) (h : i < length xs) (r : x ≡ get_or xs i x) where
-  lowest_step : lowest_at test (drop i xs) i ≡ cond (test x) (Some i) (lowest_at test (drop (i + 1) xs) (i + 1))
-  lowest_step = at_drop_more (λ ys. lowest_at test ys i) xs i x h ∙ ap (λ y. cond (test y) (Some i) (lowest_at test (drop (i + 1) xs) (i + 1))) (sym r)
-
-  pub lowest_more : test x ≡ false → lowest_at test (drop (i + 1) xs) (i + 1) ≡ lowest_at test (drop i xs) i
-  lowest_more e = sym (lowest_step ∙ cond-false _ _ _ e)
-
-  pub lowest_here : test x ≡ true → Some i ≡ lowest_at test (drop i xs) i
-  lowest_here e = sym (lowest_step ∙ cond-true _ _ _ e)
 
 -- i = k + at is the lowest index, counted from k, at which the test holds
 pub record Lowest {X : Type 0} (test : X → Bool) (xs : List X) (k i : ℕ) (d : X) : Type 0 where
@@ -69,6 +51,11 @@ front_map change zero [] h = refl
 front_map change (suc n) [] h = refl
 front_map change zero (x ∷ xs) h = absurd (omega arith)
 front_map change (suc n) (x ∷ xs) h = ap (λ ys. change x ∷ ys) (front_map change n xs (omega arith))
+
+-- the first n changed, once those before `end` are and all others stand behind them
+pub front_all : {X : Type 0} (change : X → X) (i end n : ℕ) (xs ys : List X) → ys ≡ front_changed change i (take end xs) → end ≡ min n (length xs) → length (take end xs) ≤ i → ys ++ drop end xs ≡ front_changed change n xs
+front_all change i end n xs ys e m l =
+    ap (λ rs. rs ++ drop end xs) (e ∙ front_map change i (take end xs) l) ∙ front_end change end n xs (omega arith) (λ less. omega arith)
 
 pub front_length : {X : Type 0} (change : X → X) (n : ℕ) (xs : List X) → length (front_changed change n xs) ≡ length xs
 front_length change zero xs = refl

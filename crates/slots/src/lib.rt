@@ -1,21 +1,23 @@
-//! The slot table: one thing for every kind of record, held over records that its caller lends.
+//! The slot table, one thing for every kind of record: functions on slices, and `SlotTable` over records that are lent.
 #![tactic(auto)]
 
-ghost use Rattle.std.specs.Prelude.{◌≡◌, Bool, if◌then◌else◌, Some, None, count_by, slice_set};
+ghost use Rattle.std.specs.Prelude.{◌≡◌, Bool, if◌then◌else◌, Some, None, count_by, slice_set, unwrap_or};
 ghost use Rattle.std.specs.List.{slice_get};
 ghost use Rattle.common.specs.Search.{lowest_at};
-ghost use Rattle.slots.specs.Slots.{highest_at, front_changed, next_number, has_next};
+ghost use Rattle.slots.specs.Slots.{highest_at, front_changed, Makes, next_number, has_next};
 
-mod bodies;
-pub mod body;
-pub mod counts;
 pub mod laws;
 
-pub use body::Body;
-pub use counts::count_active;
+use common::{ByteString, Index};
 
 /// How many slots a session has, at both ends.
 pub const SLOTS: usize = 16;
+
+/// The number of a slot.
+pub type SlotId = Index<SLOTS>;
+
+/// What an end keeps of a message's body: at most 256 bytes.
+pub type Body = ByteString<256>;
 
 /// What one end keeps of a slot: the server a call's outcome, the terminal its open call.
 pub trait Record {
@@ -32,22 +34,6 @@ pub trait Record {
         ensures { result ≡ ready self.now };
 }
 
-/// A change to be made at several slots: what a closure would be elsewhere.
-pub trait Change<R> {
-    ghost changed: { Self → R → R };
-
-    fn apply(&self, kept: &mut R)
-        ensures { kept.new ≡ changed self.now kept.old };
-}
-
-/// A question asked of one thing in a list.
-pub trait Test<X> {
-    ghost passes: { Self → X → Bool };
-
-    fn test(&self, item: &X) -> bool
-        ensures { result ≡ passes self.now item.now };
-}
-
 /// The number of the call behind the one with that number, at both ends; none behind the last.
 /// A slot never used has number 0, so its first call has number 1.
 pub fn next_number(number: u32) -> Option<u32>
@@ -56,73 +42,50 @@ pub fn next_number(number: u32) -> Option<u32>
     number.checked_add(1)
 }
 
+fn last_active<R: Record>(records: &[R]) -> Option<usize>
+    ensures { unwrap_or result 0 ≡ highest_at R.Record.active records.now 0 0 }
+{
+    records.iter().rposition(|r| r.is_active())
+}
+
 /// The highest slot that is active, or 0.
 pub fn highest_active<R: Record>(records: &[R]) -> usize
     ensures { result ≡ highest_at R.Record.active records.now 0 0 }
 {
-    let mut best = 0;
-    for i in 0..records.len() {
-        if records[i].is_active() {
-            best = i;
-        }
-    }
-    best
-}
-
-/// The lowest index at which a test holds.
-pub fn lowest<X, T: Test<X>>(items: &[X], test: &T) -> Option<usize>
-    ensures { result ≡ lowest_at (T.Test.passes test.now) items.now 0 }
-{
-    for i in 0..items.len() {
-        if test.test(&items[i]) {
-            return Some(i);
-        }
-    }
-    None
-}
-
-/// How many pass a test.
-pub fn count<X, T: Test<X>>(items: &[X], test: &T) -> usize
-    ensures { result ≡ count_by (T.Test.passes test.now) items.now }
-{
-    let mut n = 0;
-    for i in 0..items.len() {
-        if test.test(&items[i]) {
-            n += 1;
-        }
-    }
-    n
-}
-
-#[derive(Drop)]
-struct Ready;
-
-impl<R: Record> Test<R> for Ready {
-    ghost passes = { λ _ r. R.Record.ready r };
-
-    fn test(&self, item: &R) -> bool {
-        item.is_ready()
-    }
+    last_active(records).unwrap_or(0)
 }
 
 /// The lowest slot that is ready.
 pub fn lowest_ready<R: Record>(records: &[R]) -> Option<usize>
     ensures { result ≡ lowest_at R.Record.ready records.now 0 }
 {
-    lowest(records, &Ready)
+    records.iter().position(|r| r.is_ready())
+}
+
+/// How many of the records are active.
+pub fn count_active<R: Record>(records: &[R]) -> usize
+    ensures { result ≡ count_by R.Record.active records.now }
+{
+    records.iter().filter(|r| r.is_active()).count()
 }
 
 /// Makes a change at the first `count` records.
-pub fn change_front<R, C: Change<R>>(records: &mut [R], count: usize, change: &C)
-    ensures { records.new ≡ front_changed (C.Change.changed change.now) count records.old }
+#[tactic(auto, using(crate::proofs::Slots::front_all))]
+pub fn change_front<R, F: Fn(&mut R)>(records: &mut [R], count: usize, change: F)
+    ghost changed: { R → R }
+    requires callable { F.IsAlwaysCallable change }
+    requires makes { Makes F.Fn change changed }
+    ensures { records.new ≡ front_changed changed count records.old }
 {
     let end = count.min(records.len());
-    for i in 0..end {
-        change.apply(&mut records[i]);
+    for record in &mut records[..end] {
+        change(record);
     }
 }
 
 /// Slots over the records that a caller lends, read and changed in place.
+// Its methods stand beside the functions on slices, for a caller that lends its records. The ends call the functions,
+// since their records hold values with a model.
 #[derive(Drop)]
 pub struct SlotTable<'a, R> {
     records: &'a mut [R],
@@ -140,16 +103,14 @@ impl<'a, R: Record> SlotTable<'a, R> {
     pub fn highest(&self) -> usize
         ensures { result ≡ highest_at R.Record.active self.now.records.now 0 0 }
     {
-        let records = &*self.records;
-        highest_active(records)
+        highest_active(self.records)
     }
 
     /// The lowest slot that is ready.
     pub fn lowest(&self) -> Option<usize>
         ensures { result ≡ lowest_at R.Record.ready self.now.records.now 0 }
     {
-        let records = &*self.records;
-        lowest_ready(records)
+        lowest_ready(self.records)
     }
 
     /// The record of a slot, if there is such a slot.
@@ -158,12 +119,7 @@ impl<'a, R: Record> SlotTable<'a, R> {
         R: Copy,
         ensures { result ≡ slice_get self.now.records.now slot }
     {
-        let records = &*self.records;
-        if slot < records.len() {
-            Some(records[slot])
-        } else {
-            None
-        }
+        self.records.get(slot).copied()
     }
 
     /// Puts a record in the place of a slot's, and leaves all others; where there is no such slot, all.
@@ -173,14 +129,18 @@ impl<'a, R: Record> SlotTable<'a, R> {
         ensures after { self.new.records.now ≡ slice_set self.old.records.now slot value }
         ensures name { self.new.records.ghost_name ≡ self.old.records.ghost_name }
     {
+        // Not `get_mut`: of a slice behind it a proof knows the length alone.
         if slot < self.records.len() {
             self.records[slot] = value;
         }
     }
 
     /// Makes a change at the first `count` slots.
-    pub fn change<C: Change<R>>(&mut self, count: usize, change: &C)
-        ensures after { self.new.records.now ≡ front_changed (C.Change.changed change.now) count self.old.records.now }
+    pub fn change<F: Fn(&mut R)>(&mut self, count: usize, change: F)
+        ghost changed: { R → R }
+        requires callable { F.IsAlwaysCallable change }
+        requires makes { Makes F.Fn change changed }
+        ensures after { self.new.records.now ≡ front_changed changed count self.old.records.now }
         ensures name { self.new.records.ghost_name ≡ self.old.records.ghost_name }
     {
         change_front(self.records, count, change);

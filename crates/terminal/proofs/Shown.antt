@@ -1,21 +1,13 @@
 -- What is done to the code's slots, seen on those of the model.
-use Rattle.std.proofs.Common.{◌≡◌, ℕ, ◌<◌, ◌≤◌, Bool, true, false, cond, List, [], ◌∷◌, map, length, get_or, set, Some, None, Option, sym, refl, ap, ◌∙◌, arith}
-use Rattle.std.proofs.lemmas.List.{get_or-map, map-set, length-map}
+use Rattle.std.proofs.Common.{◌≡◌, ℕ, ◌≤◌, Bool, true, List, map, length, set, Some, None, Option, refl, ap, ◌∙◌, arith}
+use Rattle.std.proofs.lemmas.List.{map-set, length-map}
 use Rattle.std.specs.Option.{option_map}
-use Rattle.common.specs.Search.{lowest_at}
-use Rattle.slots.specs.Slots.{highest_at, front_changed}
-use Rattle.slots.specs.Counts.{count_where}
-use Rattle.slots.proofs.Counting.{count_map}
-use Rattle.slots.proofs.Slots.{lowest_map, highest_map, front_shown, front_map}
-use Rattle.wire.specs.Wire.{SessionId}
+use Rattle.slots.specs.Slots.{front_changed}
+use Rattle.slots.proofs.Slots.{front_shown, front_map}
 use Rattle.terminal.specs.declared.state.OpenCall.{OpenCall as CodeCall}
 use Rattle.terminal.specs.declared.state.End.{End}
-use Rattle.terminal.specs.Terminal.{OpenCall, EndM, TerminalM, is_ready, is_busy, with_usable, stale, stale_call, new_end}
+use Rattle.terminal.specs.Terminal.{OpenCall, EndM, with_usable, stale, stale_call}
 use Rattle.terminal.specs.Models.{end_model, call_model, opened, staled, staled_call}
-
--- a terminal by its three fields
-abbrev pub terminal_of : SessionId → ℕ → List EndM → TerminalM
-terminal_of id heard xs = record { id = id; heard = heard; slots = xs }
 
 call_staled : (o : Option CodeCall) → option_map call_model (option_map staled_call o) ≡ option_map stale_call (option_map call_model o)
 call_staled None = refl
@@ -29,18 +21,6 @@ unfolding end_of
 end_staled e = ap (end_of e.number e.usable) (call_staled e.call)
 
 module _ (es : List End) where
-  pub lowest_shown : lowest_at (λ (e : End). is_ready (end_model e)) es 0 ≡ lowest_at is_ready (map end_model es) 0
-  lowest_shown = sym (lowest_map is_ready end_model es 0)
-
-  pub highest_shown : highest_at (λ (e : End). is_busy (end_model e)) es 0 0 ≡ highest_at is_busy (map end_model es) 0 0
-  highest_shown = sym (highest_map is_busy end_model es 0 0)
-
-  pub count_shown : count_where (λ (e : End). is_busy (end_model e)) es ≡ count_where is_busy (map end_model es)
-  count_shown = sym (count_map is_busy end_model es)
-
-  pub end_shown : (i : ℕ) (d : End) → i < length es → end_model (get_or es i d) ≡ get_or (map end_model es) i new_end
-  end_shown i d h = sym (get_or-map end_model es i d new_end h)
-
   pub put_shown : (i : ℕ) (e : End) → map end_model (set es i e) ≡ set (map end_model es) i (end_model e)
   put_shown i e = map-set end_model es i e
 
@@ -51,11 +31,3 @@ module _ (es : List End) where
   staled_shown h =
       let within : length (map end_model es) ≤ 16 = omega (arith, length-map es end_model) in
       front_shown end_model staled stale end_staled 16 es ∙ front_map stale 16 (map end_model es) within
-
-one : (b : Bool) → cond b 1 0 ≤ 1
-one true = omega arith
-one false = omega arith
-
-pub count_low : {X : Type 0} (test : X → Bool) (xs : List X) → count_where test xs ≤ length xs
-count_low test [] = omega arith
-count_low test (x ∷ xs) = omega (arith, one (test x), count_low test xs)

@@ -1,7 +1,7 @@
 -- Order, part and resend by their cases; and that a call begun is resent as it was sent.
 use Rattle.std.proofs.Common.{◌≡◌, ℕ, ◌<◌, ◌≤◌, Bool, true, false, cond, not, ◌&&◌, ltb, leb, ◌++◌, length, get_or, drop, Some, None, Ok, Err, Option, Result, sym, refl, ap, ◌∙◌, subst, arith}
 use Rattle.std.proofs.lemmas.List.{get_or-set_same}
-use Rattle.std.proofs.lemmas.Bool.{cond-true, cond-false, and_parts, leb-true, ltb-true, le-ltb, lt-ltb}
+use Rattle.std.proofs.lemmas.Bool.{cond-true, cond-false, and_parts, leb-true, ltb-true, le-ltb}
 use Rattle.common.specs.Bytes.{Bytes}
 use Rattle.common.specs.Search.{when_found, lowest_at}
 use Rattle.slots.specs.Slots.{has_next}
@@ -78,16 +78,17 @@ module _ (t : TerminalM) (i : ℕ) where
   unfolding part_sends
   part_some e = cond-true _ _ _ e
 
-  pub resend_high : 15 < i → resend_sends t i ≡ Err no_open_call
-  unfolding resend_sends
-  resend_high h = cond-true _ _ _ (lt-ltb _ _ h)
-
   pub resend_low : i ≤ 15 → resend_sends t i ≡ when_found (Err no_open_call) (λ c. Ok (resent t i c)) (end_at t i).call
   unfolding resend_sends
   resend_low h = cond-false _ _ _ (le-ltb _ _ h)
 
-  pub resend_none : i ≤ 15 → (end_at t i).call ≡ None → resend_sends t i ≡ Err no_open_call
-  resend_none h e = resend_low h ∙ ap (when_found (Err no_open_call) (λ c. Ok (resent t i c))) e
+  pub resend_none : (end_at t i).call ≡ None → resend_sends t i ≡ Err no_open_call
+  unfolding resend_sends
+  resend_none e = ap (λ o. cond (ltb 15 i) (Err no_open_call) (when_found (Err no_open_call) (λ c. Ok (resent t i c)) o)) e ∙ same (ltb 15 i)
+    where
+      same : (b : Bool) → ◌≡◌ {A = Result Sending Refusal} (cond b (Err no_open_call) (Err no_open_call)) (Err no_open_call)
+      same true = refl
+      same false = refl
 
   pub resend_some : (c : OpenCall) → i ≤ 15 → (end_at t i).call ≡ Some c → resend_sends t i ≡ Ok (resent t i c)
   resend_some c h e = resend_low h ∙ ap (when_found (Err no_open_call) (λ c. Ok (resent t i c))) e

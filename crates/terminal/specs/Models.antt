@@ -1,7 +1,6 @@
 -- What the values of the code stand for in the written rules.
 use Rattle.std.specs.Prelude.{true, false, map}
 use Rattle.std.specs.Option.{option_map}
-use Rattle.slots.specs.Bodies.{held}
 use Rattle.wire.specs.Models.{id_model}
 use Rattle.terminal.specs.declared.state.OpenCall.{OpenCall as CodeCall}
 use Rattle.terminal.specs.declared.state.End.{End}
@@ -10,7 +9,7 @@ use Rattle.terminal.specs.Terminal.{OpenCall, EndM, TerminalM, stale}
 
 -- an open call, its body as bytes
 abbrev pub call_model : CodeCall → OpenCall
-call_model c = record { highest = c.highest; keep = c.keep; body = held c.body; part = c.part; fresh = c.fresh }
+call_model c = record { highest = c.highest; keep = c.keep; body = c.body; part = c.part; fresh = c.fresh }
 
 -- a slot
 abbrev pub end_model : End → EndM

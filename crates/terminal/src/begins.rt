@@ -1,6 +1,6 @@
-ghost use Rattle.std.specs.Prelude.{◌≡◌, ◌<◌, length, IfOk};
+ghost use Rattle.std.specs.Prelude.{◌≡◌, ◌<◌, IfOk};
 ghost use Rattle.wire.specs.Models.{answer_model, itself};
-ghost use Rattle.terminal.specs.Terminal.{end_at, with_end, begun, order_sends, part_sends, resend_sends, can_part, after_sending};
+ghost use Rattle.terminal.specs.Terminal.{end_at, with_end, begun, order_highest, order_sends, part_sends, resend_sends, can_part, after_sending};
 ghost use Rattle.terminal.specs.Models.{terminal_model, call_model};
 ghost use Rattle.terminal.specs.Sends.{slot_of};
 
@@ -10,12 +10,18 @@ use wire::Refusal;
 
 impl Terminal {
     fn begin(&mut self, slot: usize, call: OpenCall)
-        requires { (slot < 16) × ((end_at (terminal_model self.old) slot).number < 4294967295) }
-        ensures value { terminal_model self.new ≡ with_end (terminal_model self.old) slot (begun (end_at (terminal_model self.old) slot) (call_model call)) }
-        ensures sixteen { length (terminal_model self.old).slots ≡ 16 }
+        requires { (end_at (terminal_model self.old) slot).number < 4294967295 }
+        ensures { terminal_model self.new ≡ with_end (terminal_model self.old) slot (begun (end_at (terminal_model self.old) slot) (call_model call)) }
     {
         let end = self.end_at(slot);
         self.put_end(slot, end.begun(call));
+    }
+
+    /// The highest slot with an open call once one is begun at that slot.
+    fn highest_with(&self, slot: usize) -> usize
+        ensures { result ≡ order_highest (terminal_model self.now) slot }
+    {
+        slot.max(self.highest())
     }
 
     /// Begins a call with that body at the lowest slot that can take one, and tells the slot.
@@ -24,15 +30,10 @@ impl Terminal {
         ensures terminal { terminal_model self.new ≡ after_sending (terminal_model self.old) (order_sends (terminal_model self.old) keep body.now) }
         ensures resends { IfOk result (λ i. resend_sends (terminal_model self.new) i ≡ order_sends (terminal_model self.old) keep body.now) }
     {
-        let Some(body) = Body::copied(body) else {
-            return Err(Refusal::LongBody);
-        };
-        let Some(slot) = self.lowest() else {
-            return Err(Refusal::NoSlot);
-        };
-        let highest = slot.max(self.highest()) as u32;
+        let body = Body::copied(body).ok_or(Refusal::LongBody)?;
+        let slot = self.lowest().ok_or(Refusal::NoSlot)?;
         let call = OpenCall {
-            highest,
+            highest: self.highest_with(slot) as u32,
             keep,
             body,
             part: false,

@@ -1,21 +1,11 @@
 ghost use Rattle.std.specs.Prelude.{◌≡◌, ◌<◌};
-ghost use Rattle.terminal.specs.Terminal.{begun, at_rest, is_busy, is_ready, new_end};
-ghost use Rattle.terminal.specs.Models.{call_model, end_model, opened, staled};
+ghost use Rattle.terminal.specs.Terminal.{begun, at_rest, is_busy, is_ready};
+ghost use Rattle.terminal.specs.Models.{call_model, end_model, staled};
 
 use crate::state::{End, OpenCall};
-use slots::{Change, Record, next_number};
+use slots::{Record, next_number};
 
 impl End {
-    pub(crate) fn new() -> End
-        ensures { end_model result ≡ new_end }
-    {
-        End {
-            number: 0,
-            usable: false,
-            call: None,
-        }
-    }
-
     /// The slot with a call begun: its number rises by one.
     pub(crate) fn begun(self, call: OpenCall) -> End
         requires { self.number < 4294967295 }
@@ -23,18 +13,23 @@ impl End {
     {
         End {
             number: self.number + 1,
-            usable: self.usable,
             call: Some(call),
+            ..self
         }
     }
 
     pub(crate) fn at_rest(self) -> End
         ensures { end_model result ≡ at_rest (end_model self) }
     {
-        End {
-            number: self.number,
-            usable: self.usable,
-            call: None,
+        End { call: None, ..self }
+    }
+
+    /// The open call, if any, ceases to be fresh.
+    pub(crate) fn stale(&mut self)
+        ensures { self.new ≡ staled self.old }
+    {
+        if let Some(call) = &mut self.call {
+            call.fresh = false;
         }
     }
 }
@@ -50,32 +45,5 @@ impl Record for End {
 
     fn is_ready(&self) -> bool {
         self.usable && self.call.is_none() && next_number(self.number).is_some()
-    }
-}
-
-/// A slot becomes usable.
-#[derive(Drop)]
-pub(crate) struct Opening;
-
-impl Change<End> for Opening {
-    ghost changed = { λ _ e. opened e };
-
-    fn apply(&self, kept: &mut End) {
-        kept.usable = true;
-    }
-}
-
-/// A slot's open call, if any, ceases to be fresh.
-#[derive(Drop)]
-pub(crate) struct Staling;
-
-impl Change<End> for Staling {
-    ghost changed = { λ _ e. staled e };
-
-    fn apply(&self, kept: &mut End) {
-        if let Some(mut call) = kept.call {
-            call.fresh = false;
-            kept.call = Some(call);
-        }
     }
 }

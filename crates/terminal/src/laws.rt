@@ -1,32 +1,22 @@
 //! What holds over a terminal's life, said above the single steps. Each function's contract is the law that it names.
 ghost use Rattle.terminal.specs.Laws.{ResendsFirstBytes, NumbersNeverFall, OneCallASlot, StaleRepliesTeachNothing, GivenUpStaysShut};
 
-pub fn resends_first_bytes() -> u8
+pub fn resends_first_bytes()
     ensures { ResendsFirstBytes }
-{
-    0
-}
+{}
 
-pub fn numbers_never_fall() -> u8
+pub fn numbers_never_fall()
     ensures { NumbersNeverFall }
-{
-    0
-}
+{}
 
-pub fn one_call_a_slot() -> u8
+pub fn one_call_a_slot()
     ensures { OneCallASlot }
-{
-    0
-}
+{}
 
-pub fn stale_replies_teach_nothing() -> u8
+pub fn stale_replies_teach_nothing()
     ensures { StaleRepliesTeachNothing }
-{
-    0
-}
+{}
 
-pub fn given_up_stays_shut() -> u8
+pub fn given_up_stays_shut()
     ensures { GivenUpStaysShut }
-{
-    0
-}
+{}

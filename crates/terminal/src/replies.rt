@@ -1,4 +1,4 @@
-ghost use Rattle.std.specs.Prelude.{◌≡◌, ◌<◌};
+ghost use Rattle.std.specs.Prelude.{◌≡◌};
 ghost use Rattle.std.specs.Option.{option_map};
 ghost use Rattle.wire.specs.Models.{answer_model, reply_model};
 ghost use Rattle.terminal.specs.Terminal.{closed, parted, learns_target, learns, reply_effect, after_effect, after_accept};
@@ -6,14 +6,13 @@ ghost use Rattle.terminal.specs.Models.{terminal_model, end_model, call_model};
 ghost use Rattle.terminal.specs.Replies.{effect_model, accept_answer, call_numbered, call_of};
 
 use crate::state::{End, OpenCall, Terminal};
-use slots::SLOTS;
 use wire::{Refusal, Reply, Status};
 
-/// What a reply did to the open call that it belongs to.
-#[derive(Clone, Copy)]
-pub enum Effect<'a> {
+/// What a reply did to the open call that it belongs to. B holds the body of the reply.
+#[derive(Clone, Copy, PartialEq, Eq, Debug)]
+pub enum Effect<B> {
     /// Closed: it was served, and this is its reply.
-    Answered(&'a [u8]),
+    Answered(B),
     /// Closed: it was served, but its reply was not kept.
     Done,
     /// Closed: its session is gone, so whether it was served is not known.
@@ -27,15 +26,11 @@ impl End {
     fn call_numbered(&self, number: u32) -> Option<OpenCall>
         ensures { option_map call_model result ≡ call_numbered number (end_model self.now) }
     {
-        if self.number == number {
-            self.call
-        } else {
-            None
-        }
+        self.call.filter(|_| self.number == number)
     }
 }
 
-fn effect_of(reply: Reply<'_>) -> Effect<'_>
+fn effect_of(reply: Reply<'_>) -> Effect<&[u8]>
     ensures { effect_model result ≡ reply_effect (reply_model reply.entry) }
 {
     match reply.status {
@@ -51,16 +46,13 @@ impl Terminal {
     fn call_of(&self, reply: Reply<'_>) -> Option<OpenCall>
         ensures { option_map call_model result ≡ call_of (terminal_model self.now) (reply_model reply.entry) }
     {
-        let slot = reply.slot as usize;
-        if self.id.same(reply.id) && slot < SLOTS {
-            self.end_at(slot).call_numbered(reply.number)
-        } else {
-            None
+        if !self.has_id(reply.id) {
+            return None;
         }
+        self.end_at(reply.slot as usize).call_numbered(reply.number)
     }
 
     fn close(&mut self, slot: usize)
-        requires { slot < 16 }
         ensures { terminal_model self.new ≡ closed (terminal_model self.old) slot }
     {
         let end = self.end_at(slot);
@@ -69,15 +61,20 @@ impl Terminal {
 
     /// A slot stops being usable. What the other open calls' replies say of the target may be older than this.
     fn shut(&mut self, slot: usize)
-        requires { slot < 16 }
         ensures { terminal_model self.new ≡ parted (terminal_model self.old) slot }
     {
-        let mut end = self.end_at(slot);
-        end.usable = false;
-        self.put_end(slot, end);
+        let end = self.end_at(slot);
+        self.put_end(
+            slot,
+            End {
+                usable: false,
+                ..end
+            },
+        );
         self.stale_all();
     }
 
+    // The call and its reply stay two arguments here and below: the rules' definitions take them so.
     fn learn_target(&mut self, call: OpenCall, reply: Reply<'_>)
         ensures { terminal_model self.new ≡ learns_target (terminal_model self.old) (call_model call) (reply_model reply.entry) }
     {
@@ -88,17 +85,16 @@ impl Terminal {
 
     /// What the reply to a served call tells: the target, and of a part, whether its slot is given up.
     fn learn(&mut self, call: OpenCall, reply: Reply<'_>)
-        requires { reply.slot < 16 }
         ensures { terminal_model self.new ≡ learns (terminal_model self.old) (call_model call) (reply_model reply.entry) }
     {
+        let given_up = call.part && reply.target < reply.slot;
         self.learn_target(call, reply);
-        if call.part && reply.target < reply.slot {
+        if given_up {
             self.shut(reply.slot as usize);
         }
     }
 
-    fn settle(&mut self, call: OpenCall, reply: Reply<'_>, effect: Effect<'_>)
-        requires { reply.slot < 16 }
+    fn settle(&mut self, call: OpenCall, reply: Reply<'_>, effect: Effect<&[u8]>)
         ensures { terminal_model self.new ≡ after_effect (terminal_model self.old) (call_model call) (reply_model reply.entry) (effect_model effect.entry) }
     {
         match effect {
@@ -112,13 +108,11 @@ impl Terminal {
     }
 
     /// Takes a reply: closes the open call that it belongs to, if its status does, and learns what it tells.
-    pub fn accept<'a>(&mut self, reply: Reply<'a>) -> Result<Effect<'a>, Refusal>
+    pub fn accept<'a>(&mut self, reply: Reply<'a>) -> Result<Effect<&'a [u8]>, Refusal>
         ensures answer { answer_model effect_model result ≡ accept_answer (terminal_model self.old) (reply_model reply.entry) }
         ensures terminal { terminal_model self.new ≡ after_accept (terminal_model self.old) (reply_model reply.entry) }
     {
-        let Some(call) = self.call_of(reply) else {
-            return Err(Refusal::NoCall);
-        };
+        let call = self.call_of(reply).ok_or(Refusal::NoCall)?;
         let effect = effect_of(reply);
         self.settle(call, reply, effect);
         Ok(effect)

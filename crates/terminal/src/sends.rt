@@ -1,23 +1,22 @@
 ghost use Rattle.std.specs.Prelude.{◌≡◌, ◌≤◌, length, IfOk};
-ghost use Rattle.wire.specs.Models.{answer_model, itself};
-ghost use Rattle.terminal.specs.Terminal.{order_sends, part_sends, resend_sends, after_sending};
-ghost use Rattle.terminal.specs.Models.{terminal_model};
+ghost use Rattle.wire.specs.Models.{answer_model, itself, request_model};
+ghost use Rattle.terminal.specs.Terminal.{call_request, order_sends, part_sends, resend_sends, after_sending};
+ghost use Rattle.terminal.specs.Models.{terminal_model, call_model};
 ghost use Rattle.terminal.specs.Sends.{in_scratch, told, scratch_after, message_of, front_of};
 
-use crate::state::Terminal;
-use slots::SLOTS;
-use wire::{Refusal, Request, write_request};
+use crate::state::{OpenCall, Terminal};
+use wire::{Refusal, Request, has_room, write};
 
 /// A message that stands at the front of the caller's scratch: the slot of its call, and its length.
+// That it fits is a clause and no ghost field: `told` makes one of any sending, whose message the rules do not bound.
 #[derive(Clone, Copy)]
 pub struct Sent {
     pub slot: usize,
     pub len: usize,
 }
 
-/// The room that any message fits in.
-const ROOM: usize = 304;
-
+// The three functions that send repeat their clauses, each by its name, since a caller takes them one by one.
+// A slot is any number: one that no slot has is refused.
 impl Terminal {
     /// Begins a call with that body at the lowest slot that can take one, and writes its request to the front of
     /// the scratch. Nothing changes where it is refused.
@@ -28,13 +27,12 @@ impl Terminal {
         ensures message { front_of result scratch.new ≡ message_of (in_scratch (length scratch.old) (order_sends (terminal_model self.old) keep body.now)) }
         ensures fits { IfOk result (λ s. s.len ≤ 304) }
     {
-        if scratch.len() < ROOM {
-            return Err(Refusal::ShortScratch);
-        }
+        has_room(scratch)?;
         let slot = self.begin_order(keep, body)?;
         self.resend(slot, scratch)
     }
 
+    // Not one function with `order` over a closure: each contract names what is begun, and the closure would hide it.
     /// Offers to part with a slot above the heard target: begins a bare call there, and writes its request likewise.
     pub fn part(&mut self, slot: usize, scratch: &mut [u8]) -> Result<Sent, Refusal>
         ensures answer { answer_model itself result ≡ told (in_scratch (length scratch.old) (part_sends (terminal_model self.old) slot)) }
@@ -43,11 +41,23 @@ impl Terminal {
         ensures message { front_of result scratch.new ≡ message_of (in_scratch (length scratch.old) (part_sends (terminal_model self.old) slot)) }
         ensures fits { IfOk result (λ s. s.len ≤ 304) }
     {
-        if scratch.len() < ROOM {
-            return Err(Refusal::ShortScratch);
-        }
+        has_room(scratch)?;
         let slot = self.begin_part(slot)?;
         self.resend(slot, scratch)
+    }
+
+    /// The request of the call with that number at a slot.
+    fn request<'a>(&self, slot: u32, number: u32, call: &'a OpenCall) -> Request<'a>
+        ensures { request_model result ≡ call_request (terminal_model self.now) slot number (call_model call.now) }
+    {
+        Request {
+            id: self.id,
+            number,
+            slot,
+            highest: call.highest,
+            keep: call.keep,
+            body: call.body.as_slice(),
+        }
     }
 
     /// Writes the open call of a slot again, the same bytes as at first.
@@ -57,25 +67,10 @@ impl Terminal {
         ensures message { front_of result scratch.new ≡ message_of (in_scratch (length scratch.old) (resend_sends (terminal_model self.now) slot)) }
         ensures fits { IfOk result (λ s. s.len ≤ 304) }
     {
-        if scratch.len() < ROOM {
-            return Err(Refusal::ShortScratch);
-        }
-        if slot >= SLOTS {
-            return Err(Refusal::NoOpenCall);
-        }
+        has_room(scratch)?;
         let end = self.end_at(slot);
-        let Some(call) = end.call else {
-            return Err(Refusal::NoOpenCall);
-        };
-        let request = Request {
-            id: self.id,
-            number: end.number,
-            slot: slot as u32,
-            highest: call.highest,
-            keep: call.keep,
-            body: call.body.as_slice(),
-        };
-        let len = write_request(request, scratch)?;
+        let call = end.call.ok_or(Refusal::NoOpenCall)?;
+        let len = write(self.request(slot as u32, end.number, &call), scratch)?;
         Ok(Sent { slot, len })
     }
 }

@@ -1,15 +1,13 @@
-ghost use Rattle.std.specs.Prelude.{◌≡◌, ◌<◌, ◌≤◌, length};
+ghost use Rattle.std.specs.Prelude.{◌≡◌, ◌<◌, ◌≤◌, count_by, OnSome};
 ghost use Rattle.common.specs.Search.{lowest_at};
 ghost use Rattle.slots.specs.Slots.{highest_at};
-ghost use Rattle.slots.specs.Counts.{count_where};
 ghost use Rattle.wire.specs.Wire.{same_id};
 ghost use Rattle.wire.specs.Models.{id_model};
 ghost use Rattle.terminal.specs.Terminal.{new_terminal, end_at, with_end, is_busy, is_ready, heard_target};
 ghost use Rattle.terminal.specs.Models.{terminal_model, end_model, all_stale};
 
-use crate::ends::{Opening, Staling};
 use crate::state::{End, Terminal};
-use slots::{SLOTS, SlotTable, count_active, highest_active, lowest_ready};
+use slots::{SLOTS, change_front, count_active, highest_active, lowest_ready};
 use wire::SessionId;
 
 impl Terminal {
@@ -20,7 +18,7 @@ impl Terminal {
         let mut terminal = Terminal {
             id,
             heard: target,
-            ends: [End::new(); 16],
+            ends: [End::default(); SLOTS],
         };
         terminal.hear(target);
         terminal
@@ -36,7 +34,7 @@ impl Terminal {
     pub fn has_id(&self, id: SessionId) -> bool
         ensures { result ≡ same_id (terminal_model self.now).id (id_model id) }
     {
-        self.id.same(id)
+        self.id == id
     }
 
     /// The target that was heard last.
@@ -48,55 +46,60 @@ impl Terminal {
 
     /// How many calls are open.
     pub fn open_calls(&self) -> usize
-        ensures value { result ≡ count_where is_busy (terminal_model self.now).slots }
+        ensures value { result ≡ count_by is_busy (terminal_model self.now).slots }
         ensures low { result ≤ 16 }
     {
         count_active(&self.ends)
     }
 
     /// The lowest slot that can take a new call.
+    #[tactic(auto, using(slots::proofs::Slots::lowest_map))]
     pub(crate) fn lowest(&self) -> Option<usize>
-        ensures value { result ≡ lowest_at is_ready (terminal_model self.now).slots 0 }
-        ensures sixteen { length (terminal_model self.now).slots ≡ 16 }
+        ensures { result ≡ lowest_at is_ready (terminal_model self.now).slots 0 }
     {
         lowest_ready(&self.ends)
     }
 
     /// The highest slot with an open call, or 0.
+    #[tactic(auto, using(slots::proofs::Slots::highest_map))]
     pub(crate) fn highest(&self) -> usize
         ensures { result ≡ highest_at is_busy (terminal_model self.now).slots 0 0 }
     {
         highest_active(&self.ends)
     }
 
+    /// The end of a slot. Beyond the table each is as one never used: no call is open there, and none can begin.
     pub(crate) fn end_at(&self, slot: usize) -> End
-        requires { slot < 16 }
         ensures value { end_model result ≡ end_at (terminal_model self.now) slot }
-        ensures sixteen { length (terminal_model self.now).slots ≡ 16 }
+        ensures within { OnSome result.call (slot < 16) }
     {
-        self.ends[slot]
+        self.ends.get(slot).copied().unwrap_or_default()
     }
 
+    /// Puts an end in a slot's place, if there is such a slot. Not by `get_mut`: of an array behind it a proof knows
+    /// the length alone.
+    #[tactic(auto, using(crate::proofs::Shown::put_shown))]
     pub(crate) fn put_end(&mut self, slot: usize, end: End)
         ensures { terminal_model self.new ≡ with_end (terminal_model self.old) slot (end_model end) }
     {
-        let mut table = SlotTable::new(&mut self.ends);
-        table.put(slot, end);
+        if slot < SLOTS {
+            self.ends[slot] = end;
+        }
     }
 
     /// Believes a target: slots 0 to it become usable.
+    #[tactic(auto, using(crate::proofs::Shown::opened_shown))]
     pub(crate) fn hear(&mut self, target: u32)
         ensures { terminal_model self.new ≡ heard_target (terminal_model self.old) target }
     {
         self.heard = target;
-        let mut table = SlotTable::new(&mut self.ends);
-        table.change(target as usize + 1, &Opening);
+        change_front(&mut self.ends, target as usize + 1, |end| end.usable = true);
     }
 
+    #[tactic(auto, using(crate::proofs::Shown::staled_shown))]
     pub(crate) fn stale_all(&mut self)
         ensures { terminal_model self.new ≡ all_stale (terminal_model self.old) }
     {
-        let mut table = SlotTable::new(&mut self.ends);
-        table.change(SLOTS, &Staling);
+        change_front(&mut self.ends, SLOTS, |end| end.stale());
     }
 }

@@ -3,7 +3,7 @@ use ledger::Ledger;
 use server::{Answer, Served, Server, WorkOrder};
 use service::Service;
 use std::process::Abort;
-use wire::{Refusal, Request, SessionId, write_request};
+use wire::{Refusal, Request, SessionId, write};
 
 const BOOT: u64 = 7;
 
@@ -30,6 +30,13 @@ enum Call {
     Noise(&'static [u8]),
 }
 
+// What becomes of a new call: it is run, or set aside to be resumed. The house has such a type, but these tests stand below it.
+#[derive(Clone, Copy)]
+enum Told {
+    Run,
+    Aside,
+}
+
 #[derive(Clone, Copy, PartialEq, Eq, Debug)]
 enum Says {
     Done,
@@ -46,25 +53,9 @@ fn id(count: u64) -> SessionId {
     SessionId { boot: BOOT, count }
 }
 
-fn done<T: Drop>(answer: Result<T, Refusal>) -> Says {
-    match answer {
-        Ok(_) => Says::Done,
-        Err(refusal) => Says::No(refusal.number()),
-    }
-}
-
-fn ran(answer: Result<Answer, Refusal>) -> Says {
-    match answer {
-        Ok(answer) => Says::Ran(answer.reply().highest, answer.reply().target),
-        Err(refusal) => Says::No(refusal.number()),
-    }
-}
-
-fn aside(answer: Result<(), Refusal>) -> Says {
-    match answer {
-        Ok(()) => Says::Aside,
-        Err(refusal) => Says::No(refusal.number()),
-    }
+fn ran(answer: Answer) -> Says {
+    let reply = answer.reply();
+    Says::Ran(reply.highest, reply.target)
 }
 
 #[derive(Drop)]
@@ -81,24 +72,25 @@ impl Desk {
         }
     }
 
-    fn spend(&mut self, order: WorkOrder, now: bool) -> Says {
-        if now {
-            ran(order.run(&mut self.server, &mut self.ledger))
-        } else {
-            aside(order.set_aside(&self.server))
+    fn spend(&mut self, order: WorkOrder, told: Told) -> Result<Says, Refusal> {
+        match told {
+            Told::Run => order.run(&mut self.server, &mut self.ledger).map(ran),
+            Told::Aside => order.set_aside(&self.server).map(|()| Says::Aside),
         }
     }
 
-    fn serve(&mut self, bytes: &[u8], now: bool) -> Says {
-        match self.server.serve(bytes) {
-            Served::Fault(refusal) => Says::Fault(refusal.offset()),
-            Served::Says(answer) => Says::Status(answer.reply().status.number()),
-            Served::Old(answer) => Says::Again(answer.reply().highest, answer.reply().target),
-            Served::Work(order) => self.spend(order, now),
+    fn serve(&mut self, bytes: &[u8], told: Told) -> Result<Says, Refusal> {
+        match self.server.serve(bytes)? {
+            Served::Says(answer) => Ok(Says::Status(answer.reply().status.into())),
+            Served::Old(answer) => {
+                let reply = answer.reply();
+                Ok(Says::Again(reply.highest, reply.target))
+            }
+            Served::Work(order) => self.spend(order, told),
         }
     }
 
-    fn ask(&mut self, ask: Ask, now: bool) -> Says {
+    fn ask(&mut self, ask: Ask, told: Told) -> Result<Says, Refusal> {
         let request = Request {
             id: id(ask.count),
             number: ask.number,
@@ -108,25 +100,35 @@ impl Desk {
             body: ask.body,
         };
         let mut bytes = [0; 304];
-        match write_request(request, &mut bytes) {
-            Ok(len) => self.serve(&bytes[0..len], now),
-            Err(refusal) => Says::No(refusal.number()),
+        let len = write(request, &mut bytes)?;
+        self.serve(&bytes[..len], told)
+    }
+
+    fn resume(&mut self, count: u64, slot: u32) -> Result<Says, Refusal> {
+        let resumed = self.server.resume(id(count), slot, &mut self.ledger);
+        resumed.map(ran)
+    }
+
+    fn outcome(&mut self, call: Call) -> Result<Says, Refusal> {
+        match call {
+            Call::Open(target) => self.server.open(target).map(|_| Says::Done),
+            Call::Retarget(count, target) => {
+                let retargeted = self.server.retarget(id(count), target);
+                retargeted.map(|()| Says::Done)
+            }
+            Call::Close(count) => self.server.close(id(count)).map(|()| Says::Done),
+            Call::Run(ask) => self.ask(ask, Told::Run),
+            Call::Aside(ask) => self.ask(ask, Told::Aside),
+            Call::Resume(count, slot) => self.resume(count, slot),
+            Call::Noise(bytes) => self.serve(bytes, Told::Run),
         }
     }
 
-    fn resume(&mut self, count: u64, slot: u32) -> Says {
-        ran(self.server.resume(id(count), slot, &mut self.ledger))
-    }
-
     fn call(&mut self, call: Call) -> Says {
-        match call {
-            Call::Open(target) => done(self.server.open(target)),
-            Call::Retarget(count, target) => done(self.server.retarget(id(count), target)),
-            Call::Close(count) => done(self.server.close(id(count))),
-            Call::Run(ask) => self.ask(ask, true),
-            Call::Aside(ask) => self.ask(ask, false),
-            Call::Resume(count, slot) => self.resume(count, slot),
-            Call::Noise(bytes) => self.serve(bytes, true),
+        match self.outcome(call) {
+            Ok(says) => says,
+            Err(Refusal::Unreadable { offset }) => Says::Fault(offset),
+            Err(refusal) => Says::No(refusal.number()),
         }
     }
 }

@@ -4,4 +4,5 @@ mod Names
 mod Searches
 mod Shape
 mod Steps
+mod Views
 mod Walks

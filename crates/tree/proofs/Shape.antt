@@ -52,9 +52,6 @@ module _ (ns : Nodes) (n p k : ℕ) (name : Bytes) (t : IsTree ns) (lt : n < len
   not_root : (i : ℕ) → i ≡ 0 → i ≡ n → ⊥
   not_root i e f = ne0 (sym f ∙ e)
 
-  put_apart : p ≡ n → ⊥
-  put_apart e = apart (itself (folder_there ns p folder) e)
-
   -- a node that does not lie beneath n keeps its way up
   stays : (i : ℕ) → Beneath ns 0 i → (Beneath ns n i → ⊥) → Beneath put 0 i
   stays i (itself there e) out = itself (ap is_some (put_other i (not_root i e)) ∙ there) e

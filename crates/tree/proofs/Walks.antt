@@ -1,9 +1,9 @@
 -- The walk from a node up to the root.
-use Rattle.std.proofs.Common.{◌≡◌, ℕ, zero, suc, ◌<◌, ◌≤◌, Bool, true, false, ◌&&◌, ◌||◌, eqb, ◌⊎◌, length, None, sym, refl, ◌∙◌, subst, inl, inr, arith}
+use Rattle.std.proofs.Common.{◌≡◌, ℕ, zero, suc, ◌+◌, ◌-◌, ◌<◌, ◌≤◌, Bool, true, false, ◌&&◌, ◌||◌, eqb, ◌⊎◌, length, is_some, Some, None, sym, refl, ap, ◌∙◌, subst, inl, inr, arith}
 use borrow.Author.Tests.{clash}
 use Rattle.std.proofs.lemmas.List.{get_or_past}
 use Rattle.std.proofs.lemmas.Bool.{cases_lt, eqb-true, eq-eqb}
-use Rattle.tree.specs.Tree.{Nodes, node_at, is_there, parent_of, is_within}
+use Rattle.tree.specs.Tree.{Nodes, Node, node_at, is_there, parent_of, is_within}
 use Rattle.tree.specs.Shape.{Beneath, itself, deeper, WalkDecides}
 use Rattle.tree.proofs.Counts.{count, count_le, count_more}
 
@@ -24,6 +24,21 @@ module _ (ns : Nodes) (top i : ℕ) where
   pub walk_up : (n : ℕ) → is_there ns i ≡ true → eqb i top ≡ false → is_within (suc n) ns top i ≡ is_within n ns top (parent_of (node_at ns i))
   unfolding is_within
   walk_up n there past = rw (there, past)
+
+-- one of 64 steps up
+pub walk_on : (ns : Nodes) (top i done : ℕ) (n : Node) → Some n ≡ node_at ns i → eqb i top ≡ false → done < 64 → is_within (64 - (done + 1)) ns top n.parent ≡ is_within (64 - done) ns top i
+walk_on ns top i done n at past lt =
+    ap (λ o. is_within (64 - (done + 1)) ns top (parent_of o)) at ∙ sym (walk_up ns top i (64 - (done + 1)) (ap is_some (sym at)) past)
+    ∙ ap (λ k. is_within k ns top i) (omega arith)
+
+-- or the last one, which meets `top`
+pub walk_ends : (ns : Nodes) (top i done : ℕ) (n : Node) → Some n ≡ node_at ns i → eqb i top ≡ true → done < 64 → true ≡ is_within (64 - done) ns top i
+walk_ends ns top i done n at met lt =
+    sym (walk_met ns top i (64 - (done + 1)) (ap is_some (sym at)) met) ∙ ap (λ k. is_within k ns top i) (omega arith)
+
+-- or no step is left
+pub walk_over : (ns : Nodes) (top i n : ℕ) → n ≡ 0 → is_within n ns top i ≡ false
+walk_over ns top i n e = rw e (walk_none ns top i)
 
 -- past the nodes there is none
 pub none_past : (ns : Nodes) (i : ℕ) → length ns ≤ i → is_there ns i ≡ false

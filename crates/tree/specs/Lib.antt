@@ -1,6 +1,6 @@
 pub mod Asks
 pub mod Contents
-pub mod Forms
+pub mod Kinds
 pub mod Laws
 pub mod Replies
 pub mod Shape

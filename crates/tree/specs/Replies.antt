@@ -1,11 +1,11 @@
 -- The code's refusals and answers: the number and the bytes of each case.
 use Rattle.std.specs.Prelude.{ℕ, [], ◌∷◌, Ok, Err, Result}
 use Rattle.common.specs.Bytes.{Bytes}
-use Rattle.tree.specs.Forms.{id_number, kind_letter}
-use Rattle.tree.specs.declared.reply.Refused.{Refused}
-use Rattle.tree.specs.declared.reply.Refused.TheVariants.{NotOfForm, Absent, NoFolder, NameTaken, Exists, IsRoot, NotEmpty, IntoItself, NoSuchName}
+use Rattle.tree.specs.Kinds.{kind_letter}
+use Rattle.tree.specs.declared.refused.Refused.{Refused}
+use Rattle.tree.specs.declared.refused.Refused.TheVariants.{NotOfForm, Absent, NoFolder, NameTaken, Exists, IsRoot, NotEmpty, IntoItself, NoSuchName}
 use Rattle.tree.specs.declared.reply.Answer.{Answer}
-use Rattle.tree.specs.declared.reply.Answer.TheVariants as answer
+use Rattle.tree.specs.declared.reply.Answer.TheVariants.{Done, Found}
 
 -- the status of a refusal
 abbrev pub status_number : Refused → ℕ
@@ -19,18 +19,13 @@ status_number NotEmpty = 7
 status_number IntoItself = 8
 status_number NoSuchName = 9
 
--- an answer as a reply's bytes
-abbrev pub answer_bytes : Answer → Bytes
-answer_bytes answer.Done = 0 ∷ []
-answer_bytes (answer.Found node kind) = 0 ∷ id_number node ∷ kind_letter kind ∷ []
-answer_bytes (answer.Refused r) = status_number r ∷ []
+-- what is answered as a reply's bytes
+abbrev pub reply_bytes : Result Answer Refused → Bytes
+reply_bytes (Ok Done) = 0 ∷ []
+reply_bytes (Ok (Found node kind)) = 0 ∷ node ∷ kind_letter kind ∷ []
+reply_bytes (Err refused) = status_number refused ∷ []
 
 -- the status that a judgement stands for: 0 is done
 abbrev pub judged_status : Result (Unit {0}) Refused → ℕ
 judged_status (Ok _) = 0
-judged_status (Err r) = status_number r
-
--- the reply's bytes
-abbrev pub done_bytes : Result Answer Refused → Bytes
-done_bytes (Ok a) = answer_bytes a
-done_bytes (Err r) = status_number r ∷ []
+judged_status (Err refused) = status_number refused

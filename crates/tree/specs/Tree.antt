@@ -36,6 +36,10 @@ is_graphic c = nat_le 33 c && nat_le c 126
 abbrev pub is_name : Bytes → Bool
 is_name n = nat_le 1 (length n) && (nat_le (length n) 16 && prefix_len is_graphic n == length n)
 
+-- the name that these bytes are, if they are one
+abbrev pub name_read : Bytes → Option Bytes
+name_read n = cond (is_name n) (Some n) None
+
 -- a node's number
 abbrev pub is_node : ℕ → Bool
 is_node i = nat_le i 63

@@ -5,7 +5,7 @@ ghost use Rattle.tree.specs.Asks.{ask_model};
 use crate::nodes::{Kind, Name, NodeId};
 
 /// What a body asks of the tree.
-#[derive(Clone, Copy)]
+#[derive(Clone, Copy, PartialEq, Eq, Debug)]
 pub enum Ask {
     Make {
         parent: NodeId,
@@ -27,13 +27,19 @@ pub enum Ask {
     },
 }
 
+fn node_id(number: u8) -> Option<NodeId>
+    ensures { result ≡ (if is_node number then Some number else None) }
+{
+    NodeId::new(number.into())
+}
+
 fn make(parent: u8, node: u8, kind: u8, name: &[u8]) -> Option<Ask>
     ensures { ask_model result ≡ (if is_node parent && (is_node node && (is_kind kind && is_name name.now)) then make parent node kind name.now else unfit) }
 {
     Some(Ask::Make {
-        parent: NodeId::read(parent)?,
-        node: NodeId::read(node)?,
-        kind: Kind::read(kind)?,
+        parent: node_id(parent)?,
+        node: node_id(node)?,
+        kind: kind.try_into().ok()?,
         name: Name::read(name)?,
     })
 }
@@ -42,7 +48,7 @@ fn remove(node: u8) -> Option<Ask>
     ensures { ask_model result ≡ (if is_node node then remove node else unfit) }
 {
     Some(Ask::Remove {
-        node: NodeId::read(node)?,
+        node: node_id(node)?,
     })
 }
 
@@ -50,8 +56,8 @@ fn move_to(node: u8, parent: u8, name: &[u8]) -> Option<Ask>
     ensures { ask_model result ≡ (if is_node node && (is_node parent && is_name name.now) then move node parent name.now else unfit) }
 {
     Some(Ask::Move {
-        node: NodeId::read(node)?,
-        parent: NodeId::read(parent)?,
+        node: node_id(node)?,
+        parent: node_id(parent)?,
         name: Name::read(name)?,
     })
 }
@@ -60,13 +66,14 @@ fn look(parent: u8, name: &[u8]) -> Option<Ask>
     ensures { ask_model result ≡ (if is_node parent && is_name name.now then look parent name.now else unfit) }
 {
     Some(Ask::Look {
-        parent: NodeId::read(parent)?,
+        parent: node_id(parent)?,
         name: Name::read(name)?,
     })
 }
 
 impl Ask {
     /// Takes a body apart; none is one of no such form.
+    // No `TryFrom`: a body is unfit in one way, so that an error would say no more than none does.
     pub fn read(body: &[u8]) -> Option<Ask>
         ensures { ask_model result ≡ tree_ask body.now }
     {

@@ -4,11 +4,13 @@
 mod body;
 mod nodes;
 mod reached;
+mod refused;
 mod reply;
 #[cfg(test)]
 mod tests;
 
 pub use body::Ask;
-pub use nodes::{Kind, Name, NodeId, Tree};
+pub use nodes::{Kind, Name, NoKind, NodeId, Tree};
 pub use reached::stays_a_tree;
-pub use reply::{Answer, Refused};
+pub use refused::Refused;
+pub use reply::{Answer, write_reply};

@@ -1,20 +1,11 @@
 -- Numbers and their big-endian bytes.
-use Rattle.std.proofs.Common.{◌≡◌, ℕ, ◌+◌, ◌*◌, ◌/◌, ◌%◌, ◌^◌, ◌<◌, [], ◌∷◌, sym, ap, ◌∙◌, arith}
-use native.Mathlib.Nat.{div-div-eq-div-mul}
-use Rattle.std.proofs.lemmas.Nat.{div-add-mod', div_below, mod_below}
+use Rattle.std.proofs.Common.{◌≡◌, ℕ, ◌+◌, ◌*◌, ◌/◌, ◌%◌, ◌^◌, ◌<◌, [], ◌∷◌, ◌∙◌, arith}
+use Rattle.std.proofs.lemmas.Nat.{div-add-mod', from_be_bytes-to_be_bytes_4, div_below, mod_below}
 use Rattle.common.specs.Bytes.{bytes4}
-
-joined : (n q r s r₀ r₁ r₂ : ℕ) → n ≡ q * 256 + r₀ → q ≡ r * 256 + r₁ → r ≡ s * 256 + r₂ → s * 16777216 + r₂ * 65536 + r₁ * 256 + r₀ ≡ n
-joined n q r s r₀ r₁ r₂ a b c = omega arith
 
 -- a number of 32 bits is that of its four bytes
 pub word_back : (n : ℕ) → n < 2 ^ 32 → n / 16777216 % 256 * 16777216 + n / 65536 % 256 * 65536 + n / 256 % 256 * 256 + n % 256 ≡ n
-word_back n h =
-    let e : n / 256 / 256 ≡ n / 65536 = div-div-eq-div-mul n 256 256 in
-    let f : n / 65536 / 256 ≡ n / 16777216 = div-div-eq-div-mul n 65536 256 in
-    let top : n / 16777216 % 256 ≡ n / 16777216 = omega arith in
-    ap (λ t. t * 16777216 + n / 65536 % 256 * 65536 + n / 256 % 256 * 256 + n % 256) top
-    ∙ joined n (n / 256) (n / 65536) (n / 16777216) _ _ _ (sym (div-add-mod' n 256)) (sym (div-add-mod' (n / 256) 256) ∙ ap (λ q. q * 256 + n / 256 % 256) e) (sym (div-add-mod' (n / 65536) 256) ∙ ap (λ q. q * 256 + n / 65536 % 256) f)
+word_back n h = omega (arith, from_be_bytes-to_be_bytes_4 n h)
 
 -- four bytes are those of their number
 pub digits : (a b c d : ℕ) → a < 256 → b < 256 → c < 256 → d < 256 → bytes4 (a * 16777216 + b * 65536 + c * 256 + d) ≡ a ∷ b ∷ c ∷ d ∷ []

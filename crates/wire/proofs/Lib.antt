@@ -4,7 +4,5 @@ pub mod Exact
 pub mod Fields
 pub mod Grouped
 pub mod Inverse
-pub mod Lengths
-pub mod Permits
 pub mod Puts
 pub mod Zeros

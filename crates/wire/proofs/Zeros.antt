@@ -1,19 +1,37 @@
--- Padding, byte by byte.
-use Rattle.std.proofs.Common.{◌≡◌, ℕ, suc, ◌+◌, ◌-◌, ◌<◌, cond, eqb, get_or, Ok, Err, sym, ap, ◌∙◌, arith}
-use Rattle.std.proofs.lemmas.Bool.{cond-true, cond-false, eq-eqb, ne_eqb}
+-- Padding is all zeros where no byte of it is found to be another.
+use Rattle.std.proofs.Common.{◌≡◌, ℕ, zero, suc, ◌+◌, ◌-◌, ◌≤◌, Bool, true, false, not, cond, eqb, length, get_or, take, drop, Some, None, Ok, Err, Option, Result, sym, refl, ap, ◌∙◌, add-zero, arith}
+use Rattle.std.specs.List.{position, position_from}
+use Rattle.std.proofs.lemmas.List.{drop_more}
+use Rattle.std.proofs.lemmas.Iterator.Adapters.{position_from-zero}
 use Rattle.common.specs.Bytes.{Bytes}
-use Rattle.wire.specs.Wire.{unreadable, zeros_at}
+use Rattle.wire.specs.Wire.{Refusal, unreadable, zeros_at}
 
-zeros_step : (bs : Bytes) (n i a : ℕ) → i < n → zeros_at (n - i) bs a ≡ cond (eqb (get_or bs a 0) 0) (zeros_at (n - (i + 1)) bs (a + 1)) (Err (unreadable a))
-zeros_step bs n i a h = let e : n - i ≡ suc (n - (i + 1)) = omega arith in ap (λ m. zeros_at m bs a) e
+-- by where the first other byte was found, counted from an offset
+abbrev pub stops : ℕ → Option ℕ → Result (Unit {0}) Refusal
+stops at None = Ok tt
+stops at (Some i) = Err (unreadable (at + i))
 
-pub zeros_none : (bs : Bytes) (m a : ℕ) → m ≡ 0 → zeros_at m bs a ≡ Ok tt
-zeros_none bs m a e = ap (λ k. zeros_at k bs a) e
+abbrev pub is_other : ℕ → Bool
+is_other b = not (eqb b 0)
 
-pub zeros_more : (bs : Bytes) (n i at : ℕ) → i < n → get_or bs (at + i) 0 ≡ 0 → zeros_at (n - (i + 1)) bs (at + (i + 1)) ≡ zeros_at (n - i) bs (at + i)
-zeros_more bs n i at h z =
-    let e : at + (i + 1) ≡ at + i + 1 = omega arith in
-    ap (λ a. zeros_at (n - (i + 1)) bs a) e ∙ sym (cond-true _ _ _ (eq-eqb (get_or bs (at + i) 0) 0 z)) ∙ sym (zeros_step bs n i (at + i) h)
+chosen : (at i : ℕ) (b : Bool) (o : Option ℕ) → cond b (stops at o) (Err (unreadable (at + i))) ≡ stops at (cond (not b) (Some i) o)
+chosen at i true o = refl
+chosen at i false o = refl
 
-pub zeros_stop : (bs : Bytes) (n i at : ℕ) → i < n → (get_or bs (at + i) 0 ≡ 0 → ⊥) → zeros_at (n - i) bs (at + i) ≡ Err (unreadable (at + i))
-zeros_stop bs n i at h z = zeros_step bs n i (at + i) h ∙ cond-false _ _ _ (ne_eqb (get_or bs (at + i) 0) 0 z)
+zeros_from : (bs : Bytes) (at n i : ℕ) → at + i + n ≤ length bs → zeros_at n bs (at + i) ≡ stops at (position_from is_other i (take n (drop (at + i) bs)))
+zeros_from bs at zero i h = refl
+zeros_from bs at (suc n) i h =
+    let x = get_or bs (at + i) 0 in
+    let next : at + (i + 1) ≡ at + i + 1 = omega arith in
+    let rest = ap (λ k. zeros_at n bs k) (sym next) ∙ zeros_from bs at n (i + 1) (omega arith) ∙ ap (λ k. stops at (position_from is_other (i + 1) (take n (drop k bs)))) next in
+    ap (λ r. cond (eqb x 0) r (Err (unreadable (at + i)))) rest
+    ∙ chosen at i (eqb x 0) (position_from is_other (i + 1) (take n (drop (at + i + 1) bs)))
+    ∙ ap (λ l. stops at (position_from is_other i (take (suc n) l))) (sym (drop_more bs (at + i) 0 (omega arith)))
+
+pub zeros_are : (bs : Bytes) (at n : ℕ) → at + n ≤ length bs → zeros_at n bs at ≡ stops at (position is_other (take (at + n - at) (drop at bs)))
+zeros_are bs at n h =
+    let size : n ≡ at + n - at = omega arith in
+    ap (λ k. zeros_at n bs k) (sym (add-zero at))
+    ∙ zeros_from bs at n 0 (omega arith)
+    ∙ (λ i. stops at (position_from is_other 0 (take (size i) (drop (add-zero at i) bs))))
+    ∙ ap (stops at) (sym (position_from-zero is_other (take (at + n - at) (drop at bs))))

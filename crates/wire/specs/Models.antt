@@ -1,10 +1,11 @@
 -- What the values of the code stand for in the written rules.
-use Rattle.std.specs.Prelude.{ℕ, List, Some, None, Ok, Err, Option, Result}
+use Rattle.std.specs.Prelude.{ℕ, List, Ok, Err, Result}
 use Rattle.std.specs.Borrow.{Bor}
 use Rattle.wire.specs.declared.messages.SessionId.{SessionId as CodeId}
 use Rattle.wire.specs.declared.messages.Request.{Request as CodeRequest}
 use Rattle.wire.specs.declared.messages.Reply.{Reply as CodeReply}
 use Rattle.wire.specs.declared.statuses.Status.{Status}
+use Rattle.wire.specs.declared.statuses.UnknownStatus.{UnknownStatus}
 use Rattle.wire.specs.declared.statuses.Status.TheVariants.{Ok as Done, Delay, BadSession, BadSlot, SeqMisordered, RetryUncachedRep, SeqFalseRetry, BadHighSlot}
 use Rattle.wire.specs.declared.refusals.Place.{Place as CodePlace}
 use Rattle.wire.specs.declared.refusals.Place.TheVariants.{Buffer, Terminal, SessionMap, Channel, Codec}
@@ -24,10 +25,10 @@ status_number RetryUncachedRep = 10068
 status_number SeqFalseRetry = 10076
 status_number BadHighSlot = 10077
 
--- the number of a status, if there is one
-abbrev pub number_in : Option Status → Option ℕ
-number_in (Some s) = Some (status_number s)
-number_in None = None
+-- the number of a status, or the number that none has
+abbrev pub number_in : Result Status UnknownStatus → Result ℕ ℕ
+number_in (Ok s) = Ok (status_number s)
+number_in (Err e) = Err e.0
 
 -- a session's id
 abbrev pub id_model : CodeId → SessionId

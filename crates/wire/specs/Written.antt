@@ -1,12 +1,12 @@
 -- A message while it is assembled.
-use Rattle.std.specs.Prelude.{ℕ, ◌++◌, take}
+use Rattle.std.specs.Prelude.{ℕ, ◌++◌}
 use Rattle.common.specs.Bytes.{Bytes, bytes4, bytes8}
 use Rattle.wire.specs.declared.writer.Writer.{Writer}
 use Rattle.wire.specs.Wire.{SessionId}
 
 -- what has been written so far
 abbrev pub written : Writer → Bytes
-written w = take w.len w.bytes
+written w = w.bytes.items
 
 -- the fields that both messages have
 abbrev pub head_bytes : SessionId → ℕ → ℕ → Bytes

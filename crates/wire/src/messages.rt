@@ -1,17 +1,17 @@
-ghost use Rattle.std.specs.Prelude.{◌≡◌};
-ghost use Rattle.wire.specs.Wire.{same_id, refusing};
-ghost use Rattle.wire.specs.Models.{id_model, request_model, reply_model, status_number};
+ghost use Rattle.std.specs.Prelude.{◌≡◌, ◌^◌, ◌<◌};
+ghost use Rattle.wire.specs.Wire.{padded, refusing};
+ghost use Rattle.wire.specs.Models.{request_model, reply_model, status_number};
 
 use crate::statuses::Status;
 
-// Names a session for ever: the server's boot number, and a count that each session raises.
-#[derive(Clone, Copy)]
+/// Names a session for ever: the server's boot number, and a count that each session raises.
+#[derive(Clone, Copy, PartialEq, Eq, Debug)]
 pub struct SessionId {
     pub boot: u64,
     pub count: u64,
 }
 
-// The fields that both messages have.
+/// The fields that both messages have. The messages themselves stay flat, as their users write them.
 #[derive(Clone, Copy)]
 pub(crate) struct Head {
     pub(crate) id: SessionId,
@@ -19,14 +19,22 @@ pub(crate) struct Head {
     pub(crate) slot: u32,
 }
 
-// What a reply tells of the session's slots: the highest open one, and the one the server aims at.
+/// What a reply tells of the session's slots: the highest open one, and the one the server aims at.
 #[derive(Clone, Copy)]
 pub(crate) struct Reach {
     pub(crate) highest: u32,
     pub(crate) target: u32,
 }
 
-// What a terminal asks. `number` is the sequence number of its slot, `keep` asks that the reply be cached.
+/// The length of a body with its padding.
+pub(crate) fn padded(len: usize) -> usize
+    requires { len < 2 ^ 32 }
+    ensures { result ≡ padded len }
+{
+    len.next_multiple_of(4)
+}
+
+/// What a terminal asks. `number` is the sequence number of its slot, `keep` asks that the reply be cached.
 #[derive(Clone, Copy)]
 pub struct Request<'a> {
     pub id: SessionId,
@@ -37,7 +45,7 @@ pub struct Request<'a> {
     pub body: &'a [u8],
 }
 
-// What the server answers. `highest` is its highest open slot, `target` the one it aims at.
+/// What the server answers. `highest` is its highest open slot, `target` the one it aims at.
 #[derive(Clone, Copy)]
 pub struct Reply<'a> {
     pub status: Status,
@@ -49,17 +57,8 @@ pub struct Reply<'a> {
     pub body: &'a [u8],
 }
 
-impl SessionId {
-    // Whether both name the same session.
-    pub fn same(self, other: SessionId) -> bool
-        ensures { result ≡ same_id (id_model self) (id_model other) }
-    {
-        self.boot == other.boot && self.count == other.count
-    }
-}
-
 impl Request<'_> {
-    // The reply to this request that carries nothing but a status.
+    /// The reply to this request that carries nothing but a status.
     pub fn refusing(&self, status: Status) -> Reply<'static>
         ensures { reply_model result ≡ refusing (request_model self.now) (status_number status) }
     {

@@ -2,8 +2,8 @@ ghost use Rattle.std.specs.Prelude.{◌≡◌};
 ghost use Rattle.wire.specs.Wire.{row_of};
 ghost use Rattle.wire.specs.Models.{refusal_model, place_model};
 
-// The part of the house at which a call stops.
-#[derive(Clone, Copy)]
+/// The part of the house at which a call stops.
+#[derive(Clone, Copy, PartialEq, Eq, Debug)]
 pub enum Place {
     Buffer,
     Terminal,
@@ -12,8 +12,8 @@ pub enum Place {
     Codec,
 }
 
-// Why a call stopped. It passes up through every layer as it is; what the server
-// finds wrong with a readable request is no refusal but a status, which it replies.
+/// Why a call stopped. It passes up through every layer as it is; what the server
+/// finds wrong with a readable request is no refusal but a status, which it replies.
 #[derive(Clone, Copy, PartialEq, Eq, Debug)]
 pub enum Refusal {
     ShortScratch,
@@ -33,6 +33,7 @@ pub enum Refusal {
     NoCall,
 }
 
+// Place, number and offset are the three columns of a refusal's row in the rules, so methods alike, and no `From`.
 impl Refusal {
     pub fn place(self) -> Place
         ensures { place_model result ≡ (row_of (refusal_model self)).place }
@@ -70,7 +71,8 @@ impl Refusal {
         }
     }
 
-    // Where an unreadable message first went wrong; 0 for every other refusal.
+    /// Where an unreadable message first went wrong; 0 for every other refusal.
+    // No Option: the rules' column of offsets has the 0.
     pub fn offset(self) -> usize
         ensures { result ≡ (row_of (refusal_model self)).offset }
     {

@@ -1,8 +1,8 @@
-ghost use Rattle.std.specs.Prelude.{◌≡◌, if◌then◌else◌, Some, None, ◌==◌};
+ghost use Rattle.std.specs.Prelude.{◌≡◌, if◌then◌else◌, Ok, Err, ◌==◌};
 ghost use Rattle.wire.specs.Wire.{is_status, top_with, longest_with};
 ghost use Rattle.wire.specs.Models.{status_number, number_in};
 
-// A reply's status: done, or the reason for which the server did not serve the call.
+/// A reply's status: done, or the reason for which the server did not serve the call.
 #[derive(Clone, Copy, PartialEq, Eq, Debug)]
 pub enum Status {
     Ok,
@@ -15,11 +15,15 @@ pub enum Status {
     BadHighSlot,
 }
 
-impl Status {
-    pub fn number(self) -> u32
-        ensures { result ≡ status_number self }
-    {
-        match self {
+/// A number that is no status.
+#[derive(Clone, Copy, PartialEq, Eq, Debug)]
+pub struct UnknownStatus(pub u32);
+
+impl From<Status> for u32 {
+    ghost from_gives = { λ status number. number ≡ status_number status };
+
+    fn from(status: Status) -> u32 {
+        match status {
             Status::Ok => 0,
             Status::Delay => 10008,
             Status::BadSession => 10052,
@@ -30,41 +34,44 @@ impl Status {
             Status::BadHighSlot => 10077,
         }
     }
+}
 
-    pub fn from_number(number: u32) -> Option<Status>
-        ensures { number_in result ≡ (if is_status number then Some number else None) }
-    {
+impl TryFrom<u32> for Status {
+    type Error = UnknownStatus;
+
+    ghost try_from_gives = { λ number r. number_in r ≡ (if is_status number then Ok number else Err number) };
+
+    fn try_from(number: u32) -> Result<Status, UnknownStatus> {
         match number {
-            0 => Some(Status::Ok),
-            10008 => Some(Status::Delay),
-            10052 => Some(Status::BadSession),
-            10053 => Some(Status::BadSlot),
-            10063 => Some(Status::SeqMisordered),
-            10068 => Some(Status::RetryUncachedRep),
-            10076 => Some(Status::SeqFalseRetry),
-            10077 => Some(Status::BadHighSlot),
-            _ => None,
+            0 => Ok(Status::Ok),
+            10008 => Ok(Status::Delay),
+            10052 => Ok(Status::BadSession),
+            10053 => Ok(Status::BadSlot),
+            10063 => Ok(Status::SeqMisordered),
+            10068 => Ok(Status::RetryUncachedRep),
+            10076 => Ok(Status::SeqFalseRetry),
+            10077 => Ok(Status::BadHighSlot),
+            _ => Err(UnknownStatus(number)),
         }
     }
+}
 
-    // Whether the call was done.
+impl Status {
+    /// Whether the call was done.
     pub fn is_ok(self) -> bool
         ensures { result ≡ (status_number self == 0) }
     {
-        match self {
-            Status::Ok => true,
-            _ => false,
-        }
+        self == Status::Ok
     }
 
-    // The greatest highest and target slot that a reply with this status may carry.
+    /// The greatest highest and target slot that a reply with this status may carry.
     pub(crate) fn top(self) -> u32
         ensures { result ≡ top_with (status_number self) }
     {
         if self.is_ok() { 15 } else { 0 }
     }
 
-    // The longest body that a reply with this status may carry.
+    /// The longest body that a reply with this status may carry.
     pub(crate) fn longest(self) -> u32
         ensures { result ≡ longest_with (status_number self) }
     {

@@ -2,7 +2,7 @@ use crate::messages::{Reply, Request, SessionId};
 use crate::read::{read_reply, read_request};
 use crate::refusals::Refusal;
 use crate::statuses::Status;
-use crate::write::{write_reply, write_request};
+use crate::writes::write;
 
 const ID: SessionId = SessionId {
     boot: 7,
@@ -32,7 +32,7 @@ fn reply() -> Reply<'static> {
     }
 }
 
-// A byte put at an offset, the length that the message is cut to, and where reading it stops.
+/// A byte put at an offset, the length that the message is cut to, and where reading it stops.
 type Damage = (usize, u8, usize, Option<usize>);
 
 const REQUESTS: [Damage; 9] = [
@@ -59,28 +59,26 @@ const REPLIES: [Damage; 8] = [
 ];
 
 fn stop<T: Drop>(answer: Result<T, Refusal>) -> Option<usize> {
-    match answer {
-        Ok(_) => None,
-        Err(refusal) => Some(refusal.offset()),
-    }
+    answer.err().map(|refusal| refusal.offset())
 }
 
 #[test]
 fn damaged_requests_stop_at_the_damage(rt: HostRuntime) {
     for (at, byte, cut, stops) in REQUESTS {
         let mut bytes = [0; 304];
-        assert_eq!(rt; write_request(request(), &mut bytes), Ok(44));
+        assert_eq!(rt; write(request(), &mut bytes), Ok(44));
         assert!(rt; at < 304 && cut <= 304);
         bytes[at] = byte;
         assert_eq!(rt; stop(read_request(&bytes[0..cut])), stops);
     }
 }
 
+// Two loops: the two readers give different types.
 #[test]
 fn damaged_replies_stop_at_the_damage(rt: HostRuntime) {
     for (at, byte, cut, stops) in REPLIES {
         let mut bytes = [0; 304];
-        assert_eq!(rt; write_reply(reply(), &mut bytes), Ok(52));
+        assert_eq!(rt; write(reply(), &mut bytes), Ok(52));
         assert!(rt; at < 304 && cut <= 304);
         bytes[at] = byte;
         assert_eq!(rt; stop(read_reply(&bytes[0..cut])), stops);
@@ -96,11 +94,11 @@ fn a_refused_write_leaves_its_buffer(rt: HostRuntime) {
     };
     let mut out = [238; 304];
     assert_eq!(rt;
-        write_request(request, &mut out),
+        write(request, &mut out),
         Err(Refusal::Unreadable { offset: 36 })
     );
     assert_eq!(rt;
-        write_request(request, &mut out[0..303]),
+        write(request, &mut out[0..303]),
         Err(Refusal::ShortScratch)
     );
     assert!(rt; out == [238; 304]);

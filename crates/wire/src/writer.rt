@@ -1,74 +1,56 @@
-ghost use Rattle.std.specs.Prelude.{◌≡◌, ◌+◌, ◌≤◌, [], ◌++◌, length, drop, replicate};
+ghost use Rattle.std.specs.Prelude.{◌≡◌, ◌+◌, ◌≤◌, [], ◌++◌, length};
 ghost use Rattle.common.specs.Bytes.{bytes4, bytes8};
-ghost use Rattle.wire.specs.Wire.{padded, body_field};
+ghost use Rattle.wire.specs.Wire.{body_field};
 ghost use Rattle.wire.specs.Models.{id_model};
 ghost use Rattle.wire.specs.Written.{written, head_bytes};
 
-use crate::messages::SessionId;
+use crate::messages::{SessionId, padded};
+use crate::writes::ROOM;
+use arrayvec::ArrayVec;
 
-// A message as it is assembled, apart from the caller's buffer.
-#[derive(Clone, Copy)]
-pub(crate) struct Writer {
-    bytes: [u8; 304],
-    len: usize,
+/// A message as it is assembled, apart from the caller's buffer. Outside this crate it has no name, so that
+/// only the two messages here are a `Message`.
+#[derive(Drop)]
+pub struct Writer {
+    bytes: ArrayVec<u8, ROOM>,
 }
 
 impl Writer {
     pub(crate) fn new() -> Writer
-        ensures written { written result ≡ [] }
-        ensures len { result.len ≡ 0 }
+        ensures { written result ≡ [] }
     {
         Writer {
-            bytes: [0; 304],
-            len: 0,
+            bytes: ArrayVec::new(),
         }
     }
 
-    // Puts bytes behind those that stand there.
+    /// Puts bytes behind those that stand there. Each method asks for the room that it needs: no two need the same.
     fn put(&mut self, more: &[u8])
-        requires { self.old.len + length more.now ≤ 304 }
-        ensures written { written self.new ≡ written self.old ++ more.now }
-        ensures len { self.new.len ≡ self.old.len + length more.now }
+        requires { length (written self.old) + length more.now ≤ 304 }
+        ensures { written self.new ≡ written self.old ++ more.now }
     {
-        let at = self.len;
-        let end = at + more.len();
-        self.bytes[at..end].copy_from_slice(more);
-        self.len = end;
-    }
-
-    fn zeros(&mut self, n: usize)
-        requires { self.old.len + n ≤ 304 }
-        ensures written { written self.new ≡ written self.old ++ replicate n 0 }
-        ensures len { self.new.len ≡ self.old.len + n }
-    {
-        let at = self.len;
-        let end = at + n;
-        self.bytes[at..end].fill(0);
-        self.len = end;
+        self.bytes.try_extend_from_slice(more).unwrap();
     }
 
     pub(crate) fn u32(&mut self, n: u32)
-        requires { self.old.len + 4 ≤ 304 }
-        ensures written { written self.new ≡ written self.old ++ bytes4 n }
-        ensures len { self.new.len ≡ self.old.len + 4 }
+        requires { length (written self.old) + 4 ≤ 304 }
+        ensures { written self.new ≡ written self.old ++ bytes4 n }
     {
         self.put(&n.to_be_bytes());
     }
 
+    // Not one function with `u32`: `to_be_bytes` belongs to no trait, and one for it repeats both bodies.
     fn u64(&mut self, n: u64)
-        requires { self.old.len + 8 ≤ 304 }
-        ensures written { written self.new ≡ written self.old ++ bytes8 n }
-        ensures len { self.new.len ≡ self.old.len + 8 }
+        requires { length (written self.old) + 8 ≤ 304 }
+        ensures { written self.new ≡ written self.old ++ bytes8 n }
     {
-        self.u32((n / 4294967296) as u32);
-        self.u32((n % 4294967296) as u32);
+        self.put(&n.to_be_bytes());
     }
 
-    // The fields that both messages have.
+    /// The fields that both messages have.
     pub(crate) fn head(&mut self, id: SessionId, number: u32, slot: u32)
-        requires { self.old.len + 24 ≤ 304 }
-        ensures written { written self.new ≡ written self.old ++ head_bytes (id_model id) number slot }
-        ensures len { self.new.len ≡ self.old.len + 24 }
+        requires { length (written self.old) + 24 ≤ 304 }
+        ensures { written self.new ≡ written self.old ++ head_bytes (id_model id) number slot }
     {
         self.u64(id.boot);
         self.u64(id.count);
@@ -76,25 +58,23 @@ impl Writer {
         self.u32(slot);
     }
 
-    // A body behind its length, and its padding.
+    /// A body behind its length, and its padding.
     pub(crate) fn body(&mut self, body: &[u8])
-        requires { (length body.now ≤ 256) × (self.old.len ≤ 44) }
-        ensures written { written self.new ≡ written self.old ++ body_field body.now }
-        ensures len { self.new.len ≡ self.old.len + (4 + padded (length body.now)) }
+        requires short { length body.now ≤ 256 }
+        requires room { length (written self.old) ≤ 44 }
+        ensures { written self.new ≡ written self.old ++ body_field body.now }
     {
         let n = body.len();
         self.u32(n as u32);
         self.put(body);
-        self.zeros((n + 3) / 4 * 4 - n);
+        self.put(&[0; 4][..padded(n) - n]);
     }
 
-    // Copies the message out; what stands behind it stays.
-    pub(crate) fn copy_to(&self, out: &mut [u8]) -> usize
-        requires { (self.now.len ≤ 304) × (304 ≤ length out.old) }
-        ensures value { result ≡ self.now.len }
-        ensures out { out.new ≡ written self.now ++ drop self.now.len out.old }
+    /// The message.
+    pub(crate) fn as_slice(&self) -> &[u8]
+        ensures value { result.now ≡ written self.now }
+        ensures fits { length result.now ≤ 304 }
     {
-        out[0..self.len].copy_from_slice(&self.bytes[0..self.len]);
-        self.len
+        self.bytes.as_slice()
     }
 }

@@ -1,19 +1,19 @@
-ghost use Rattle.std.specs.Prelude.{◌≡◌, ℕ, true, List, IfSome, Some, None, Decides, slice_set};
+ghost use Rattle.std.specs.Prelude.{◌≡◌, ℕ, true, List, IfSome, Some, Decides, length};
 ghost use Rattle.common.specs.Bytes.{Bytes};
 ghost use Rattle.tree.specs.Shape.{Beneath, reached};
-ghost use Rattle.tree.specs.Tree.{first_nodes, node_at, kind_of, is_there, is_folder, is_named, named, other_named, is_empty, is_within};
-ghost use Rattle.tree.specs.Forms.{id_number, kind_letter, name_bytes, read_id};
-ghost use Rattle.tree.specs.Contents.{place_model, nodes_of, node_of};
+ghost use Rattle.tree.specs.Tree.{first_nodes, node_at, is_there, is_named, named, other_named, is_empty, is_within};
+ghost use Rattle.tree.specs.Contents.{place_model};
 
-use crate::nodes::{Kind, Name, Node, NodeId, Tree, Wanted};
+use crate::nodes::places::{is_named, lies_in};
+use crate::nodes::{Kind, Name, Node, NodeId, ROOT, Tree};
 
 impl Tree {
     /// The root alone.
     pub fn new() -> Tree
-        ensures { nodes_of result ≡ first_nodes }
+        ensures { result ≡ first_nodes }
     {
         let mut nodes = [None; 64];
-        nodes[0] = Some(Node {
+        nodes[ROOT] = Some(Node {
             parent: None,
             kind: Kind::Folder,
             name: Name::empty(),
@@ -21,112 +21,70 @@ impl Tree {
         Tree { nodes }
     }
 
-    fn at(&self, node: NodeId) -> Option<Node>
-        ensures { place_model result ≡ node_at (nodes_of self.now) (id_number node) }
+    pub(super) fn at(&self, node: NodeId) -> Option<Node>
+        ensures { place_model result ≡ node_at self.now node }
     {
-        self.nodes[node.number() as usize]
-    }
-
-    pub(super) fn is_there(&self, node: NodeId) -> bool
-        ensures { result ≡ is_there (nodes_of self.now) (id_number node) }
-    {
-        self.at(node).is_some()
-    }
-
-    pub(super) fn is_folder(&self, node: NodeId) -> bool
-        ensures { result ≡ is_folder (nodes_of self.now) (id_number node) }
-    {
-        match self.at(node) {
-            Some(found) => found.kind.is_folder(),
-            None => false,
-        }
-    }
-
-    pub(super) fn kind_of(&self, node: NodeId) -> Kind
-        requires { is_there (nodes_of self.now) (id_number node) ≡ true }
-        ensures { kind_letter result ≡ kind_of (node_at (nodes_of self.now) (id_number node)) }
-    {
-        match self.at(node) {
-            Some(found) => found.kind,
-            None => unreachable(),
-        }
-    }
-
-    pub(super) fn put(&mut self, parent: NodeId, node: NodeId, kind: Kind, name: Name)
-        ensures { nodes_of self.new ≡ slice_set (nodes_of self.old) (id_number node) (Some (node_of parent kind name)) }
-    {
-        self.nodes[node.number() as usize] = Some(Node {
-            parent: Some(parent),
-            kind,
-            name,
-        });
-    }
-
-    // The node that has a name in a folder.
-    pub(super) fn named(&self, folder: NodeId, name: Name) -> Option<NodeId>
-        ensures there { IfSome result (λ i. is_there (nodes_of self.now) (id_number i) ≡ true) }
-        ensures value { read_id result ≡ named (nodes_of self.now) (id_number folder) (name_bytes name) }
-    {
-        match Wanted::Named(folder, name).find(&self.nodes) {
-            Some(i) => NodeId::read(i as u8),
-            None => None,
-        }
-    }
-
-    // The other nodes.
-    pub(super) fn without(&self, node: NodeId) -> Tree
-        ensures { nodes_of result ≡ slice_set (nodes_of self.now) (id_number node) None }
-    {
-        let mut nodes = self.nodes;
-        nodes[node.number() as usize] = None;
-        Tree { nodes }
+        self.nodes[node.get()]
     }
 
     // Another node has the name there.
     pub(super) fn other_named(&self, folder: NodeId, name: Name, node: NodeId) -> bool
-        ensures { result ≡ other_named (nodes_of self.now) (id_number folder) (name_bytes name) (id_number node) }
+        ensures { result ≡ other_named self.now folder name node }
     {
-        self.without(node).named(folder, name).is_some()
+        let node = node.get();
+        self.nodes
+            .iter()
+            .enumerate()
+            .any(|(i, place)| i != node && is_named(place, folder, name))
     }
 
     // Nothing lies in the folder.
     pub(super) fn is_empty(&self, folder: NodeId) -> bool
-        ensures { result ≡ is_empty (nodes_of self.now) (id_number folder) }
+        ensures { result ≡ is_empty self.now folder }
     {
-        Wanted::In(folder).find(&self.nodes).is_none()
-    }
-
-    // The node is `top` or lies beneath it: from it up, folder by folder, `top` is met.
-    pub(super) fn is_within(&self, top: NodeId, node: NodeId) -> bool
-        ensures { result ≡ is_within 64 (nodes_of self.now) (id_number top) (id_number node) }
-    {
-        let mut next = Some(node);
-        for _ in 0..64u8 {
-            let Some(here) = next else {
-                return false;
-            };
-            let Some(found) = self.at(here) else {
-                return false;
-            };
-            if here.is(top) {
-                return true;
-            }
-            next = found.parent;
-        }
-        false
+        !self.nodes.iter().any(|place| lies_in(place, folder))
     }
 
     /// The node that has a name in a folder; in a tree that bodies led to it is the only one.
     pub fn find(&self, folder: NodeId, name: Name) -> Option<NodeId>
-        ensures value { read_id result ≡ named (nodes_of self.now) (id_number folder) (name_bytes name) }
-        ensures only { (bodies : List Bytes) → nodes_of self.now ≡ reached bodies → (i : ℕ) → is_named (id_number folder) (name_bytes name) (node_at (nodes_of self.now) i) ≡ true → read_id result ≡ Some i }
+        ensures there { IfSome result (λ i. is_there self.now i ≡ true) }
+        ensures value { result ≡ named self.now folder name }
+        ensures only { (bodies : List Bytes) → self.now ≡ reached bodies → (i : ℕ) → is_named folder name (node_at self.now i) ≡ true → result ≡ Some i }
     {
-        self.named(folder, name)
+        self.nodes
+            .iter()
+            .position(|place| is_named(place, folder, name))
+            .and_then(NodeId::new)
+    }
+
+    // The node is `top` or lies beneath it: from it up, folder by folder, `top` is met.
+    // A chain of `successors` is no plainer: each node has to be there before it is compared.
+    #[tactic(auto, using(crate::proofs::Walks::walk_over, crate::proofs::Views::whole))]
+    pub(super) fn is_within(&self, top: NodeId, node: NodeId) -> bool
+        ensures value { result ≡ is_within 64 self.now top node }
+        ensures whole { length self.now ≡ 64 }
+    {
+        let nodes = &self.nodes;
+        let mut here = node;
+        for _ in 0..64u8 {
+            let Some(found) = nodes[here.get()] else {
+                return false;
+            };
+            if here == top {
+                return true;
+            }
+            let Some(parent) = found.parent else {
+                return false;
+            };
+            here = parent;
+        }
+        false
     }
 
     /// Whether the node is `top` or lies beneath it, however far down.
     pub fn lies_beneath(&self, top: NodeId, node: NodeId) -> bool
-        ensures { Decides result (Beneath (nodes_of self.now) (id_number top) (id_number node)) }
+        ensures value { Decides result (Beneath self.now top node) }
+        ensures whole { length self.now ≡ 64 }
     {
         self.is_within(top, node)
     }

@@ -1,71 +1,47 @@
-ghost use Rattle.std.specs.Prelude.{◌≡◌, Some};
-ghost use Rattle.tree.specs.Asks.{ask_model};
+ghost use Rattle.std.specs.Prelude.{◌≡◌, Some, if◌then◌else◌, slice_set};
 ghost use Rattle.tree.specs.Laws.{tree_laws};
-ghost use Rattle.tree.specs.Tree.{make, remove, move, look, tree_ask, tree_status, tree_after, tree_answer, tree_model};
-ghost use Rattle.tree.specs.Forms.{id_number, kind_letter, name_bytes};
-ghost use Rattle.tree.specs.Contents.{nodes_of};
-ghost use Rattle.tree.specs.Replies.{judged_status, answer_bytes, done_bytes};
+ghost use Rattle.tree.specs.Tree.{make, remove, move, look, is_there, is_folder, other_named, tree_ask, tree_after, tree_answer, tree_model};
+ghost use Rattle.tree.specs.Kinds.{kind_letter};
+ghost use Rattle.tree.specs.Contents.{node_of};
+ghost use Rattle.tree.specs.Replies.{judged_status, reply_bytes};
 
 use crate::body::Ask;
-use crate::nodes::{Kind, Name, Node, NodeId, Tree};
-use crate::reply::{Answer, Refused};
+use crate::nodes::{Kind, Name, Node, NodeId, ROOT, Tree};
+use crate::refused::Refused;
+use crate::reply::{Answer, write_reply};
 use service::Service;
 
 // The tests stand in the order of their statuses.
 impl Tree {
-    // A folder and a card are judged alike.
-    fn judge_make(&self, parent: NodeId, node: NodeId, name: Name) -> Result<(), Refused>
-        ensures { judged_status result ≡ tree_status (nodes_of self.now) (make (id_number parent) (id_number node) 100 (name_bytes name)) }
+    // There is such a folder.
+    fn judge_folder(&self, folder: NodeId) -> Result<(), Refused>
+        ensures { judged_status result ≡ (if is_there self.now folder then (if is_folder self.now folder then 0 else 3) else 2) }
     {
-        if !self.is_there(parent) {
-            return Err(Refused::Absent);
+        match self.at(folder).ok_or(Refused::Absent)?.kind {
+            Kind::Folder => Ok(()),
+            Kind::Card => Err(Refused::NoFolder),
         }
-        if !self.is_folder(parent) {
-            return Err(Refused::NoFolder);
-        }
+    }
+
+    // There is such a folder, and no other node has the name in it.
+    fn judge_place(&self, parent: NodeId, name: Name, node: NodeId) -> Result<(), Refused>
+        ensures { judged_status result ≡ (if is_there self.now parent then (if is_folder self.now parent then (if other_named self.now parent name node then 4 else 0) else 3) else 2) }
+    {
+        self.judge_folder(parent)?;
         if self.other_named(parent, name, node) {
             return Err(Refused::NameTaken);
-        }
-        if self.is_there(node) {
-            return Err(Refused::Exists);
         }
         Ok(())
     }
 
-    fn judge_remove(&self, node: NodeId) -> Result<(), Refused>
-        ensures { judged_status result ≡ tree_status (nodes_of self.now) (remove (id_number node)) }
+    fn put(&mut self, parent: NodeId, node: NodeId, kind: Kind, name: Name)
+        ensures { self.new ≡ slice_set self.old node (Some (node_of parent kind name)) }
     {
-        if !self.is_there(node) {
-            return Err(Refused::Absent);
-        }
-        if node.is(NodeId::root()) {
-            return Err(Refused::IsRoot);
-        }
-        if !self.is_empty(node) {
-            return Err(Refused::NotEmpty);
-        }
-        Ok(())
-    }
-
-    fn judge_move(&self, node: NodeId, parent: NodeId, name: Name) -> Result<(), Refused>
-        ensures { judged_status result ≡ tree_status (nodes_of self.now) (move (id_number node) (id_number parent) (name_bytes name)) }
-    {
-        if !self.is_there(node) || !self.is_there(parent) {
-            return Err(Refused::Absent);
-        }
-        if !self.is_folder(parent) {
-            return Err(Refused::NoFolder);
-        }
-        if self.other_named(parent, name, node) {
-            return Err(Refused::NameTaken);
-        }
-        if node.is(NodeId::root()) {
-            return Err(Refused::IsRoot);
-        }
-        if self.is_within(node, parent) {
-            return Err(Refused::IntoItself);
-        }
-        Ok(())
+        self.nodes[node.get()] = Some(Node {
+            parent: Some(parent),
+            kind,
+            name,
+        });
     }
 
     fn make(
@@ -75,57 +51,63 @@ impl Tree {
         kind: Kind,
         name: Name,
     ) -> Result<Answer, Refused>
-        ensures reply { done_bytes result ≡ tree_answer (nodes_of self.old) (make (id_number parent) (id_number node) (kind_letter kind) (name_bytes name)) }
-        ensures nodes { nodes_of self.new ≡ tree_after (nodes_of self.old) (make (id_number parent) (id_number node) (kind_letter kind) (name_bytes name)) }
+        ensures reply { reply_bytes result ≡ tree_answer self.old (make parent node (kind_letter kind) name) }
+        ensures nodes { self.new ≡ tree_after self.old (make parent node (kind_letter kind) name) }
     {
-        self.judge_make(parent, node, name)?;
+        self.judge_place(parent, name, node)?;
+        if self.at(node).is_some() {
+            return Err(Refused::Exists);
+        }
         self.put(parent, node, kind, name);
         Ok(Answer::Done)
     }
 
     fn remove(&mut self, node: NodeId) -> Result<Answer, Refused>
-        ensures reply { done_bytes result ≡ tree_answer (nodes_of self.old) (remove (id_number node)) }
-        ensures nodes { nodes_of self.new ≡ tree_after (nodes_of self.old) (remove (id_number node)) }
+        ensures reply { reply_bytes result ≡ tree_answer self.old (remove node) }
+        ensures nodes { self.new ≡ tree_after self.old (remove node) }
     {
-        self.judge_remove(node)?;
-        *self = self.without(node);
+        self.at(node).ok_or(Refused::Absent)?;
+        if node.get() == ROOT {
+            return Err(Refused::IsRoot);
+        }
+        if !self.is_empty(node) {
+            return Err(Refused::NotEmpty);
+        }
+        self.nodes[node.get()] = None;
         Ok(Answer::Done)
     }
 
     fn move_to(&mut self, node: NodeId, parent: NodeId, name: Name) -> Result<Answer, Refused>
-        ensures reply { done_bytes result ≡ tree_answer (nodes_of self.old) (move (id_number node) (id_number parent) (name_bytes name)) }
-        ensures nodes { nodes_of self.new ≡ tree_after (nodes_of self.old) (move (id_number node) (id_number parent) (name_bytes name)) }
+        ensures reply { reply_bytes result ≡ tree_answer self.old (move node parent name) }
+        ensures nodes { self.new ≡ tree_after self.old (move node parent name) }
     {
-        self.judge_move(node, parent, name)?;
-        let kind = self.kind_of(node);
+        let kind = self.at(node).ok_or(Refused::Absent)?.kind;
+        self.judge_place(parent, name, node)?;
+        if node.get() == ROOT {
+            return Err(Refused::IsRoot);
+        }
+        if self.is_within(node, parent) {
+            return Err(Refused::IntoItself);
+        }
         self.put(parent, node, kind, name);
         Ok(Answer::Done)
     }
 
     fn look(&self, parent: NodeId, name: Name) -> Result<Answer, Refused>
-        ensures { done_bytes result ≡ tree_answer (nodes_of self.now) (look (id_number parent) (name_bytes name)) }
+        ensures { reply_bytes result ≡ tree_answer self.now (look parent name) }
     {
-        if !self.is_there(parent) {
-            return Err(Refused::Absent);
-        }
-        if !self.is_folder(parent) {
-            return Err(Refused::NoFolder);
-        }
-        match self.named(parent, name) {
-            Some(node) => {
-                let kind = self.kind_of(node);
-                Ok(Answer::Found { node, kind })
-            }
-            None => Err(Refused::NoSuchName),
-        }
+        self.judge_folder(parent)?;
+        let node = self.find(parent, name).ok_or(Refused::NoSuchName)?;
+        let kind = self.at(node).unwrap().kind;
+        Ok(Answer::Found { node, kind })
     }
 
-    // What is asked, done.
-    fn answer(&mut self, ask: Ask) -> Result<Answer, Refused>
-        ensures reply { done_bytes result ≡ tree_answer (nodes_of self.old) (ask_model (Some ask)) }
-        ensures nodes { nodes_of self.new ≡ tree_after (nodes_of self.old) (ask_model (Some ask)) }
+    // What a body asks, done.
+    fn serve(&mut self, body: &[u8]) -> Result<Answer, Refused>
+        ensures reply { reply_bytes result ≡ tree_answer self.old (tree_ask body.now) }
+        ensures nodes { self.new ≡ tree_after self.old (tree_ask body.now) }
     {
-        match ask {
+        match Ask::read(body).ok_or(Refused::NotOfForm)? {
             Ask::Make {
                 parent,
                 node,
@@ -137,30 +119,16 @@ impl Tree {
             Ask::Look { parent, name } => self.look(parent, name),
         }
     }
-
-    // What a body asks, done.
-    fn serve(&mut self, body: &[u8]) -> Answer
-        ensures reply { answer_bytes result ≡ tree_answer (nodes_of self.old) (tree_ask body.now) }
-        ensures nodes { nodes_of self.new ≡ tree_after (nodes_of self.old) (tree_ask body.now) }
-    {
-        let Some(ask) = Ask::read(body) else {
-            return Answer::Refused(Refused::NotOfForm);
-        };
-        match self.answer(ask) {
-            Ok(done) => done,
-            Err(refused) => Answer::Refused(refused),
-        }
-    }
 }
 
 impl Service for Tree {
     ghost model = { tree_model };
 
-    ghost content = { nodes_of };
+    ghost content = { λ nodes. nodes };
 
     ghost lawful = { tree_laws };
 
     fn run(&mut self, body: &[u8], out: &mut [u8; 256]) -> usize {
-        self.serve(body).write(out)
+        write_reply(self.serve(body), out)
     }
 }

@@ -1,13 +1,12 @@
-use Rattle.std.proofs.Common.{ℕ, ap, ◌∙◌, arith}
-use Rattle.std.proofs.lemmas.List.{take_all}
-use Rattle.std.proofs.lemmas.List.Sums.{sum_by_more}
+use Rattle.std.proofs.Common.{◌≤◌, ◌*◌, length, arith, rules}
+use Rattle.std.proofs.lemmas.List.Elements.{All-from_get_or}
+use Rattle.std.proofs.lemmas.List.Sums.{sum_by-le}
 use Rattle.ledger.specs.Runs.{grams}
 use Rattle.ledger.proofs.book.grams_in.Goals as goal
 
-pub loop-grams-preserved : goal.loop-grams-preserved
-loop-grams-preserved c =
-    let more = sum_by_more (λ (x : ℕ). x) c.args.bins.now c.loop-grams.grams-index 0 c.loop-grams-test.true in
-    (omega arith, omega (arith, c.type_inv.bins c.loop-grams.grams-index))
-
-pub returns : goal.returns
-returns c = c.loop-grams.invariant.0 ∙ ap grams (take_all c.loop-grams.grams-index c.args.bins.now c.loop-grams-test.false)
+pub sum-requires-clause-fits : goal.sum-requires-clause-fits
+sum-requires-clause-fits c =
+    let bins = c.args.bins.now in
+    let small : grams bins ≤ length bins * 4294967295 =
+    sum_by-le _ 4294967295 bins (All-from_get_or (λ n. n ≤ 4294967295) bins 0 (λ i _. omega (arith, c.type_inv.bins i))) in
+    search rules

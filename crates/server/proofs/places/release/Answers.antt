@@ -1,41 +1,31 @@
-use Rattle.std.proofs.Common.{◌≡◌, get_or, Some, refl, ap, ◌∙◌, arith}
-use Rattle.std.specs.List.{slice_get}
+use Rattle.std.proofs.Common.{◌<◌, map, length, get_or, set, Some, None, refl, sym, ap, ◌∙◌, arith}
 use Rattle.std.proofs.lemmas.List.{get_or_default}
-use Rattle.std.proofs.lemmas.Option.{slice_get-get_or}
-use Rattle.server.specs.declared.records.Session.{Session}
-use Rattle.server.specs.Models.{slot_model, no_tray}
-use Rattle.server.specs.Places.{emptied}
-use Rattle.server.proofs.Slots.{emptied_shut}
-use Rattle.server.proofs.Trays.{standing_of, marked_freed, counted_freed, placed, unplaced}
+use Rattle.server.specs.declared.records.Tray.{Tray}
+use Rattle.server.specs.declared.records.Slot.{Slot}
+use Rattle.server.specs.Trays.{no_slot}
+use Rattle.server.specs.Models.{session_model, slot_in}
+use Rattle.server.specs.Places.{emptied, change_in, at_slot}
+use Rattle.server.proofs.Slots.{released}
+use Rattle.server.proofs.Trays.{freed, held_state}
 use Rattle.server.proofs.places.release.Goals as goal
 
-pub returns-then-kept : goal.returns-then-kept
-returns-then-kept c =
+pub returns-in-Some-tray : goal.returns-in-Some-tray
+returns-in-Some-tray c =
     let ss = c.args.sessions.now in
-    let p = c.args.place in
-    let i = c.args.slot in
-    let s = get_or ss p c.index-sessions-place-then-kept.result in
-    let x = c.slot-kept.result in
-    let hs = slice_get-get_or ss p c.index-sessions-place-then-kept.result c.requires.within in
-    let hx : slice_get s.slots i ≡ Some x = ap (λ (r : Session). slice_get r.slots i) (get_or_default ss p _ _ c.requires.within) ∙ c.slot-kept.ensures in
-    let st = standing_of ss p s hs c.requires.stands in
-    let a = c.put.ensures in
-    let e = c.empty.ensures in
+    let ts = c.args.trays.now in
+    let s = c.in-Some.session in
+    let p = c.get.result in
+    let i = c.get-i.result in
+    let k = c.get-in-Some-tray.result in
+    let us = set ts k c.free.result in
+    let hi : i < length s.slots = omega (arith, s.whole, c.get-i.ensures.below) in
+    let hs = get_or_default ss p None _ (omega (arith, c.get.ensures.below, c.requires.whole.0)) ∙ c.in-Some.is in
+    let hk : k < length ts = omega (arith, c.get-in-Some-tray.ensures.below, c.requires.whole.1) in
+    let hx = ap (λ (y : Slot). y.tray) (get_or_default s.slots i no_slot _ hi) ∙ c.in-Some-tray.is ∙ ap Some (sym c.get-in-Some-tray.ensures.value) in
+    let e = ap (λ y. slot_in us (record y { tray = None })) (get_or_default s.slots i _ no_slot hi) ∙ released us ts (get_or s.slots i no_slot) in
     record {
-      marked = marked_freed ss p i s _ x _ hs hx st a.slots a.standing _ c.requires.marked c.if-kept.true e.live;
-      counted = counted_freed ss p i s _ x _ hs hx st a.slots a.standing _ c.requires.counted c.requires.marked c.if-kept.true e.live (omega (arith, x.fits));
-      state = λ ts. placed ss p i s _ x _ hs hx st a.slots a.standing ts ts a.id a.target emptied (ap (λ k. slot_model (get_or ts k no_tray) c.empty.new.self) e.tray ∙ e.slot (get_or ts x.tray no_tray)) (λ j n r y k l m q. refl);
-    }
-
-pub returns-else-kept : goal.returns-else-kept
-returns-else-kept c =
-    let ss = c.args.sessions.now in
-    let p = c.args.place in
-    let s = get_or ss p c.index-sessions-place.result in
-    let x = c.slot-kept.result in
-    let hs = slice_get-get_or ss p c.index-sessions-place.result c.requires.within in
-    record {
-      marked = c.requires.marked;
-      counted = c.requires.counted;
-      state = λ ts. unplaced ts ss p c.args.slot s x emptied hs c.slot-kept.ensures (standing_of ss p s hs c.requires.stands) (emptied_shut x (get_or ts x.tray no_tray) c.if-kept.false);
+      owned = freed ss ts p i k s _ _ c.free.result hs hi refl c.requires.owned hk hx refl (ap (λ (t : Tray). t.owner) c.free.ensures);
+      state =
+          held_state ss ts p i k s _ _ c.free.result hs hi refl c.requires.owned hk hx refl refl emptied e
+          ∙ (λ u. change_in (map (session_model ts) ss) (c.get.ensures.value u) (at_slot emptied (c.get-i.ensures.value u)));
     }

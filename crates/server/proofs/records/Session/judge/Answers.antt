@@ -1,13 +1,26 @@
-use Rattle.std.proofs.Common.{◌<◌, length, get_or, arith, rules}
+use Rattle.std.proofs.Common.{◌<◌, ◌≤◌, length, get_or, sym, ap, ◌∙◌, arith}
 use Rattle.std.proofs.lemmas.List.{get_or_default}
+use Rattle.std.proofs.lemmas.Bool.{cond-false, le-ltb}
 use Rattle.wire.specs.Models.{request_model}
-use Rattle.server.proofs.Slots.{verdict_is}
+use Rattle.server.specs.Server.{judge}
+use Rattle.server.specs.Trays.{no_slot}
+use Rattle.server.specs.Models.{slot_model, slot_in}
+use Rattle.server.proofs.Trays.{slot_here}
+use Rattle.server.proofs.Found.{passed}
 use Rattle.server.proofs.records.Session.judge.Goals as goal
 
 pub returns : goal.returns
 returns c =
+    let ts = c.args.trays.now in
     let s = c.args.self.now in
-    let i = c.args.request.slot in
-    let within : i < length s.slots = search rules in
-    let x = get_or s.slots i c.index-self-request.result in
-    verdict_is c.args.trays.now s (request_model c.args.request) x c.index-trays-slot.result _ c.if-request-gt15.false within (get_or_default s.slots i _ x within) (omega (arith, x.fits)) c.index-trays-slot.is c.judge.ensures
+    let q = request_model c.args.request in
+    let n = passed _ q.slot c.in-Some.slot (sym c.new.ensures ∙ c.in-Some.is) in
+    let low : q.slot ≤ 15 = omega (arith, c.get.ensures.below, c.get.ensures.value, n.1) in
+    let h : c.get.result < length s.slots = omega (arith, s.whole, c.get.ensures.below) in
+    c.judge.ensures
+    ∙ ap (λ y. judge y q)
+    ((λ u. slot_model (c.entry-entry.ensures.tray u) (c.entry-entry.ensures.slot u))
+    ∙ ap (slot_in ts) (get_or_default s.slots c.get.result _ no_slot h)
+    ∙ ap (λ n. slot_in ts (get_or s.slots n no_slot)) (c.get.ensures.value ∙ n.1)
+    ∙ sym (slot_here ts s q.slot))
+    ∙ sym (cond-false _ _ _ (le-ltb 15 q.slot low))

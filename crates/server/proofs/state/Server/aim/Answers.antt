@@ -1,31 +1,28 @@
-use Rattle.std.proofs.Common.{◌<◌, length, get_or, refl, ap, ◌∙◌, arith, length-set}
-use Rattle.std.proofs.lemmas.Option.{slice_get-get_or}
+use Rattle.std.proofs.Common.{◌<◌, length, refl, sym, ap, ◌∙◌, arith, length-set}
+use Rattle.server.specs.Trays.{tray_in, slots_open}
 use Rattle.server.specs.Models.{model}
-use Rattle.server.specs.Places.{with_target}
+use Rattle.server.specs.Places.{change_at, with_target}
+use Rattle.server.proofs.Trays.{stands_at}
 use Rattle.server.proofs.Changes.{with_places}
-use Rattle.server.proofs.Opened.{marked_same, counted_same, place_set, aimed}
+use Rattle.server.proofs.Opened.{marked_at, counted_at, place_set}
 use Rattle.server.proofs.state.Server.aim.Goals as goal
 
 pub invariant_of-self : goal.invariant_of-self
 invariant_of-self c =
     let v = c.args.self.now in
-    let ss = v.sessions in
-    let p = c.args.place in
-    let h : p < length ss = omega (arith, v.whole) in
-    let s = get_or ss p c.index-self-place.result in
-    let hs = slice_get-get_or ss p c.index-self-place.result h in
+    let p = c.get.result in
+    let h : p < length v.sessions = omega (arith, v.whole, c.get.ensures.below) in
+    let hs = stands_at v p c.index-self-get.result c.in-Some.session c.get.ensures.below c.in-Some.is in
     record {
-      whole = (length-set _ _ _ ∙ v.whole.0, v.whole.1, v.whole.2);
-      marked = marked_same ss v.owners p s _ hs v.marked (λ i. refl);
-      counted = counted_same ss v.owners p s _ hs v.counted refl;
+      whole = (length-set _ _ _ ∙ v.whole.0, v.whole.1);
+      marked = marked_at v.sessions v.trays p _ h v.marked (λ i k e. ap (λ o. tray_in o i) hs ∙ e);
+      counted = counted_at v.sessions _ p _ h v.counted (sym (ap slots_open hs));
     }
 
-pub returns : goal.returns
-returns c =
+pub returns-in-Some : goal.returns-in-Some
+returns-in-Some c =
     let v = c.args.self.now in
-    let ss = v.sessions in
-    let p = c.args.place in
-    let h : p < length ss = omega (arith, v.whole) in
-    let s = get_or ss p c.index-self-place.result in
-    let hs = slice_get-get_or ss p c.index-self-place.result h in
-    ap (with_places (model v)) (place_set v.trays ss p s _ (with_target c.args.target) hs (aimed v.trays s c.args.target s.standing))
+    let p = c.get.result in
+    let hs = stands_at v p c.index-self-get.result c.in-Some.session c.get.ensures.below c.in-Some.is in
+    ap (with_places (model v)) (place_set v.trays v.sessions p c.in-Some.session _ (with_target c.args.target) hs refl)
+    ∙ ap (λ q. change_at (model v) q (with_target c.args.target)) c.get.ensures.value

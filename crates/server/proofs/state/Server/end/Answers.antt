@@ -1,67 +1,28 @@
-use Rattle.std.proofs.Common.{◌≡◌, true, false, not, [], get_or, Some, sym, ap, ◌∙◌}
-use Rattle.std.proofs.lemmas.Bool.{cond-true, cond-false, not_from_false}
+use Rattle.std.proofs.Common.{◌≡◌, cond, eqb, [], length, Some, sym, ap, ◌∙◌}
+use Rattle.common.specs.Bytes.{Bytes}
 use Rattle.slots.specs.Slots.{highest_at}
-use Rattle.server.specs.Server.{SlotM, SessionM, slot_at, is_bare}
+use Rattle.server.specs.Server.{SlotM, SessionM, slot_at}
 use Rattle.server.specs.Models.{model}
-use Rattle.server.specs.Places.{session_at, change_at, ended}
-use Rattle.server.proofs.Changes.{holds_from}
-use Rattle.server.proofs.Runs.{bare_told, highest_told, target_told, end_state}
+use Rattle.server.specs.Places.{session_at}
+use Rattle.server.proofs.Runs.{highest_told, target_told, end_state}
 use Rattle.server.proofs.state.Server.end.Goals as goal
-
-pub keep_bare-requires : goal.keep_bare-requires
-keep_bare-requires g c =
-    let v = c.args.self.now in
-    let p = c.args.place in
-    let i = c.args.slot in
-    let b = bare_told v p i c.index-self-place-3.result c.slot-kept.result c.requires.within c.slot-kept.ensures _ c.is_bare.ensures in
-    record {
-      within = c.requires.within;
-      slot = c.requires.slot;
-      bare = holds_from (λ m. is_bare (slot_at m i)) (session_at (model v) p) c.requires.stands (λ m e. sym (b m e) ∙ c.if-is_bare.true);
-      low = (c.highest_open-highest.ensures.low, (get_or v.sessions p c.index-self-place-2.result).low);
-    }
-
-pub returns-then-is_bare : goal.returns-then-is_bare
-returns-then-is_bare g c =
-    let v = c.args.self.now in
-    let p = c.args.place in
-    let i = c.args.slot in
-    let b = bare_told v p i c.index-self-place-3.result c.slot-kept.result c.requires.within c.slot-kept.ensures _ c.is_bare.ensures in
-    let yes : (m : SessionM) → session_at (model v) p ≡ Some m → is_bare (slot_at m i) ≡ true = λ m e. sym (b m e) ∙ c.if-is_bare.true in
-    let top : (m : SessionM) → session_at (model v) p ≡ Some m → c.highest_open-highest.result ≡ highest_at (λ (x : SlotM). x.is_open) m.slots 0 0 = λ m e. c.highest_open-highest.ensures.value ∙ highest_told v p c.index-self-place.result m c.requires.within e in
-    let goal : (m : SessionM) → session_at (model v) p ≡ Some m → (get_or v.sessions p c.index-self-place-2.result).target ≡ m.target = λ m e. target_told v p c.index-self-place-2.result m c.requires.within e in
-    record {
-      outcome = λ m e. (top m e, goal m e, c.empty.ensures.value ∙ sym (cond-true _ _ _ (yes m e)));
-      state =
-          end_state (model v) _ p i _ _ [] (λ m e. (top m e, goal m e)) c.keep_bare.ensures
-          ∙ ap (λ bytes. change_at (model v) p (ended i bytes)) (sym c.empty.ensures.value);
-      content = λ m e. sym (cond-true _ _ _ (yes m e));
-    }
-
-pub keep_outcome-requires : goal.keep_outcome-requires
-keep_outcome-requires g c =
-    let v = c.args.self.now in
-    let p = c.args.place in
-    let i = c.args.slot in
-    let b = bare_told v p i c.index-self-place-3.result c.slot-kept.result c.requires.within c.slot-kept.ensures _ c.is_bare.ensures in
-    record {
-      within = c.requires.within;
-      slot = c.requires.slot;
-      asks = holds_from (λ m. not (is_bare (slot_at m i))) (session_at (model v) p) c.requires.stands (λ m e. not_from_false _ (sym (b m e) ∙ c.if-is_bare.false));
-    }
 
 pub returns : goal.returns
 returns g c =
+    let S = g.S.Service.model in
     let v = c.args.self.now in
-    let p = c.args.place in
-    let i = c.args.slot in
-    let b = bare_told v p i c.index-self-place-3.result c.slot-kept.result c.requires.within c.slot-kept.ensures _ c.is_bare.ensures in
-    let no : (m : SessionM) → session_at (model v) p ≡ Some m → is_bare (slot_at m i) ≡ false = λ m e. sym (b m e) ∙ c.if-is_bare.false in
-    let top : (m : SessionM) → session_at (model v) p ≡ Some m → c.highest_open-highest.result ≡ highest_at (λ (x : SlotM). x.is_open) m.slots 0 0 = λ m e. c.highest_open-highest.ensures.value ∙ highest_told v p c.index-self-place.result m c.requires.within e in
-    let goal : (m : SessionM) → session_at (model v) p ≡ Some m → (get_or v.sessions p c.index-self-place-2.result).target ≡ m.target = λ m e. target_told v p c.index-self-place-2.result m c.requires.within e in
-    let a = c.reply_to-body.ensures in
+    let m = model v in
+    let p = c.args.spot.now.place in
+    let i = c.args.spot.now.slot in
+    let k = g.S.Service.content c.args.service.now in
+    let s = c.session-session.result.now in
+    let hs = c.session-session.ensures in
+    let a = c.reply_of-body.ensures in
+    let asked : (n : SessionM) → session_at m p ≡ Some n → c.as_slice.result.now ≡ (slot_at n i).body = λ n e. c.as_slice.ensures.value ∙ ap (λ (y : SlotM). y.body) (sym (c.entry-entry.ensures.value n e)) in
+    let top : (n : SessionM) → session_at m p ≡ Some n → c.highest_open-highest.result ≡ highest_at (λ (x : SlotM). x.is_open) n.slots 0 0 = λ n e. c.highest_open-highest.ensures.value ∙ highest_told v p s hs n e in
+    let aim : (n : SessionM) → session_at m p ≡ Some n → s.target ≡ n.target = target_told v p s hs in
     record {
-      outcome = λ m e. (top m e, goal m e, a.reply m e ∙ sym (cond-false _ _ _ (no m e)));
-      state = end_state (model v) _ p i _ _ _ (λ m e. (top m e, goal m e)) c.keep_outcome.ensures;
-      content = λ m e. a.content m e ∙ sym (cond-false _ _ _ (no m e));
+      outcome = λ n e. (top n e, aim n e, a.reply ∙ ap (λ (b : Bytes). cond (eqb (length b) 0) [] (S.reply k b)) (asked n e));
+      state = end_state m _ p i _ _ _ (λ n e. (top n e, aim n e)) c.keep.ensures;
+      content = λ n e. a.content ∙ ap (λ (b : Bytes). cond (eqb (length b) 0) k (S.next k b)) (asked n e);
     }

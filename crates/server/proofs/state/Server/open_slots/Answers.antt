@@ -1,42 +1,42 @@
-use Rattle.std.proofs.Common.{◌≡◌, ◌<◌, true, length, ap, ◌∙◌, arith}
-use Rattle.std.proofs.lemmas.List.{length-map}
-use Rattle.server.specs.Server.{with_open}
-use Rattle.server.specs.Models.{model, session_model}
-use Rattle.server.specs.Places.{change_at, at_front}
-use Rattle.server.proofs.Changes.{sixteen, loop_none, loop_stands, loop_more, loop_shut, shut_left_more}
+use Rattle.std.proofs.Common.{ℕ, ◌≡◌, true, ap, ◌∙◌, arith}
+use Rattle.std.proofs.lemmas.Bool.{cond-true, lt-ltb}
+use Rattle.server.specs.Server.{free_trays, with_open}
+use Rattle.server.specs.Models.{model}
+use Rattle.server.specs.Places.{at_slot, change_at, shut_at}
+use Rattle.server.proofs.Changes.{sixteen, loop_more, loop_shut, shut_left_more}
 use Rattle.server.proofs.state.Server.open_slots.Goals as goal
-
-pub loop-i-init : goal.loop-i-init
-loop-i-init c = (loop_none (model c.args.self.now) c.args.place (with_open true), c.requires.room)
+use Rattle.server.proofs.state.Server.open_slots.Goals.{in-Some, in_default}
 
 pub open_slot-requires : goal.open_slot-requires
 open_slot-requires c =
     let v = c.args.self.now in
     let p = c.args.place in
     let i = c.loop-i.i in
-    let h : p < length (model v).sessions = omega (arith, v.whole, length-map v.sessions (session_model v.trays), c.requires.within) in
+    let there = c.new.ensures ∙ cond-true _ _ _ (lt-ltb i 16 (omega (arith, c.loop-i-test.true, c.requires.few))) in
+    let e = c.in-Some.is in
+    let q : c.in-Some.slot ≡ i = cc in
     let l = shut_left_more (model v) p i c.args.count c.loop-i-test.true (λ s e. omega (arith, sixteen v.trays v.sessions p s e, c.requires.few)) in
-    let k = loop_shut (model v) (model c.loop-i.self) p i (with_open true) h c.loop-i.invariant.0 in
-    record {
-      within = c.requires.within;
-      slot = omega (arith, c.loop-i-test.true, c.requires.few);
-      stands = loop_stands (model v) (model c.loop-i.self) p i (with_open true) h c.loop-i.invariant.0 c.requires.stands;
-      room = omega (arith, l, k, c.loop-i.invariant.1);
-    }
+    let k = loop_shut (model v) (model c.loop-i.self) p i (with_open true) c.loop-i.invariant.0 in
+    let at : shut_at (model c.loop-i.self) p c.in-Some.slot ≡ shut_at (model c.loop-i.self) p i = ap (shut_at (model c.loop-i.self) p) q in
+    record { room = omega (arith, l, k, at, c.loop-i.invariant.1) }
 
 pub loop-i-preserved : goal.loop-i-preserved
 loop-i-preserved c =
     let v = c.args.self.now in
     let p = c.args.place in
     let i = c.loop-i.i in
-    let h : p < length (model v).sessions = omega (arith, v.whole, length-map v.sessions (session_model v.trays), c.requires.within) in
+    let there = c.new.ensures ∙ cond-true _ _ _ (lt-ltb i 16 (omega (arith, c.loop-i-test.true, c.requires.few))) in
     let l = shut_left_more (model v) p i c.args.count c.loop-i-test.true (λ s e. omega (arith, sixteen v.trays v.sessions p s e, c.requires.few)) in
-    let k = loop_shut (model v) (model c.loop-i.self) p i (with_open true) h c.loop-i.invariant.0 in (
-      loop_more (model v) (model c.loop-i.self) p i (with_open true) h c.loop-i.invariant.0 _ (λ s e. omega (arith, sixteen v.trays v.sessions p s e, c.loop-i-test.true, c.requires.few)) c.open_slot.ensures.state,
-      omega (arith, l, k, c.loop-i.invariant.1, c.open_slot.ensures.free),
-    )
-
-pub returns : goal.returns
-returns c =
-    let e : c.loop-i.i ≡ c.args.count = omega arith in
-    c.loop-i.invariant.0 ∙ ap (λ n. change_at (model c.args.self.now) c.args.place (at_front (with_open true) n)) e
+    let k = loop_shut (model v) (model c.loop-i.self) p i (with_open true) c.loop-i.invariant.0 in
+    elim c.match-new.branch [
+      | in-Some w ↦
+          let e = w.in-Some.is in
+          let q : w.in-Some.slot ≡ i = cc in
+          let at : shut_at (model c.loop-i.self) p w.in-Some.slot ≡ shut_at (model c.loop-i.self) p i = ap (shut_at (model c.loop-i.self) p) q in
+          let left = ap (λ u. free_trays (model u)) w.self-is in (
+            loop_more (model v) (model c.loop-i.self) p i (with_open true) c.loop-i.invariant.0 _ (λ s e. omega (arith, sixteen v.trays v.sessions p s e, c.loop-i-test.true, c.requires.few))
+                (ap model w.self-is ∙ w.open_slot.ensures.state ∙ ap (λ n. change_at (model c.loop-i.self) p (at_slot (with_open true) n)) q),
+            omega (arith, l, k, at, left, c.loop-i.invariant.1, w.open_slot.ensures.free),
+          )
+      | in_default w ↦ absurd (let e = w.in_default.is in let z : ◌≡◌ {A = ℕ} 0 1 = cc in omega arith)
+    ]

@@ -1,27 +1,22 @@
-use Rattle.std.proofs.Common.{◌≡◌, ℕ, ◌+◌, ◌<◌, ◌≤◌, true, not, length, get_or, take, Some, Ok, count_by, sym, ap, ◌∙◌, arith}
-use Rattle.std.proofs.lemmas.List.{length-map}
-use Rattle.std.proofs.lemmas.Option.{slice_get-get_or}
+use Rattle.std.proofs.Common.{◌≡◌, ℕ, ◌+◌, ◌<◌, ◌≤◌, true, not, get_or, take, is_some, None, Some, Ok, count_by, sym, ap, ◌∙◌, arith}
 use Rattle.server.specs.Server.{SlotM, SessionM, free_trays, place_of, shut_up_to, with_open, after_call, retargeted, retarget_in}
 use Rattle.common.specs.Search.{when_found}
 use Rattle.wire.specs.Wire.{SessionId}
 use Rattle.server.specs.declared.records.Slot.{Slot}
 use Rattle.server.specs.declared.records.Session.{Session}
 use Rattle.server.specs.declared.state.Server.{Server}
-use Rattle.server.specs.Models.{model, session_model}
+use Rattle.server.specs.Models.{model}
 use Rattle.server.specs.Places.{session_at, change_at, at_front, with_target, shut_below}
-use Rattle.server.proofs.Trays.{session_is}
 use Rattle.server.proofs.Changes.{with_places, change_twice}
 use Rattle.server.proofs.Found.{changed_found}
-use Rattle.server.proofs.Runs.{some_of}
+use Rattle.server.proofs.Runs.{some_of, session_is}
 use Rattle.server.proofs.Opened.{shut_told, retarget_few, retarget_done}
 use Rattle.server.proofs.state.Server.retarget_at.Goals as goal
 
 -- the shut slots that the code counts are those of the rule
-told : (v : Server) (p n : ℕ) (d : Session) (m : SessionM) → p < 8 → session_at (model v) p ≡ Some m → count_by (λ (x : Slot). not x.live) (take n (get_or v.sessions p d).slots) ≡ count_by (λ (x : SlotM). not x.is_open) (take n m.slots)
-told v p n d m low e =
-    let s = get_or v.sessions p d in
-    let hs = slice_get-get_or v.sessions p d (omega (arith, v.whole)) in
-    shut_told v.trays s.slots n ∙ ap (λ (r : SessionM). count_by (λ (x : SlotM). not x.is_open) (take n r.slots)) (sym (session_is v.trays v.sessions p s m hs e).1)
+told : (v : Server) (p n : ℕ) (s : Session) (m : SessionM) → get_or v.sessions p None ≡ Some s → session_at (model v) p ≡ Some m → count_by (λ (x : Slot). not (is_some x.tray)) (take n s.slots) ≡ count_by (λ (x : SlotM). not x.is_open) (take n m.slots)
+told v p n s m hs e =
+    shut_told v.trays s.slots n ∙ ap (λ (r : SessionM). count_by (λ (x : SlotM). not x.is_open) (take n r.slots)) (sym (session_is v p s hs m e))
 
 pub returns-then-free_trays-shut_below : goal.returns-then-free_trays-shut_below
 returns-then-free_trays-shut_below c =
@@ -29,7 +24,7 @@ returns-then-free_trays-shut_below c =
     let m = model v in
     let t = c.args.target in
     let few : (s : SessionM) → session_at m c.args.place ≡ Some s → free_trays m < shut_up_to s t =
-    λ s e. omega (arith, c.shut_below.ensures, told v c.args.place (t + 1) c.index-self-place.result s c.requires.within e, c.free_trays.ensures.value, c.if-free_trays-shut_below.true)
+    λ s e. omega (arith, c.shut_below.ensures, told v c.args.place (t + 1) c.session.result.now s c.session.ensures e, c.free_trays.ensures.value, c.if-free_trays-shut_below.true)
     in
     record {
       answer = λ s e id f. sym (retarget_few m id t s c.if-target-gt15.false (few s e));
@@ -42,13 +37,11 @@ open_slots-requires c =
     let m = model v in
     let p = c.args.place in
     let n = c.args.target + 1 in
-    let s = some_of (session_at m p) c.requires.stands in
+    let s = some_of (session_at m p) c.requires in
     let shut : shut_below m p n ≡ count_by (λ (x : SlotM). not x.is_open) (take n s.0.slots) = ap (when_found 0 (λ (r : SessionM). count_by (λ (x : SlotM). not x.is_open) (take n r.slots))) s.1 in
     record {
-      within = c.requires.within;
       few = omega (arith, c.if-target-gt15.false);
-      stands = c.requires.stands;
-      room = omega (arith, shut, c.shut_below.ensures, told v p n c.index-self-place.result s.0 c.requires.within s.1, c.free_trays.ensures.value, c.if-free_trays-shut_below.false);
+      room = omega (arith, shut, c.shut_below.ensures, told v p n c.session.result.now s.0 c.session.ensures s.1, c.free_trays.ensures.value, c.if-free_trays-shut_below.false);
     }
 
 pub returns : goal.returns
@@ -57,14 +50,13 @@ returns c =
     let m = model v in
     let p = c.args.place in
     let t = c.args.target in
-    let h : p < length m.sessions = omega (arith, v.whole, length-map v.sessions (session_model v.trays), c.requires.within) in
     let room : (s : SessionM) → session_at m p ≡ Some s → shut_up_to s t ≤ free_trays m =
-    λ s e. omega (arith, c.shut_below.ensures, told v p (t + 1) c.index-self-place.result s c.requires.within e, c.free_trays.ensures.value, c.if-free_trays-shut_below.false)
+    λ s e. omega (arith, c.shut_below.ensures, told v p (t + 1) c.session.result.now s c.session.ensures e, c.free_trays.ensures.value, c.if-free_trays-shut_below.false)
     in
     let n =
     c.aim.ensures
     ∙ ap (λ q. change_at q p (with_target t)) c.open_slots.ensures
-    ∙ ap (with_places m) (change_twice m.sessions p (at_front (with_open true) (t + 1)) (with_target t) h)
+    ∙ ap (with_places m) (change_twice m.sessions p (at_front (with_open true) (t + 1)) (with_target t))
     in
     let all : (s : SessionM) → session_at m p ≡ Some s → (id : SessionId) → place_of m id ≡ Some p → Ok (model c.aim.new.self) ≡ retarget_in m id t s =
     λ s e id f. ap Ok (n ∙ changed_found m id p s (λ r. retargeted r t) f e) ∙ sym (retarget_done m id t s c.if-target-gt15.false (room s e))

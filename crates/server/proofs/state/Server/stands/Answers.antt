@@ -5,4 +5,4 @@ use Rattle.server.proofs.Opened.{stands_of}
 use Rattle.server.proofs.state.Server.stands.Goals as goal
 
 pub returns : goal.returns
-returns c = c.is_some.ensures ∙ stands_of (model c.args.self.now) (id_model c.args.id) _ c.find.ensures.value
+returns c = c.is_some.ensures ∙ stands_of (model c.args.self.now) (id_model c.args.id) _ c.find.ensures

@@ -1,45 +1,54 @@
-use Rattle.std.proofs.Common.{max, sym, ap, ◌∙◌, arith, rules}
-use Rattle.slots.specs.Bodies.{held}
-use Rattle.terminal.specs.Terminal.{TerminalM, after_sending}
-use Rattle.terminal.specs.Models.{terminal_model}
+use Rattle.std.proofs.Common.{◌≡◌, Some, length, sym, ap, ◌∙◌, rules}
+use Rattle.std.proofs.lemmas.List.{length-map}
+use Rattle.common.specs.Search.{lowest_at}
+use Rattle.terminal.specs.Terminal.{TerminalM, after_sending, is_ready}
+use Rattle.terminal.specs.Models.{terminal_model, end_model}
 use Rattle.terminal.specs.Sends.{slot_of}
 use Rattle.terminal.proofs.Steps.{order_long, order_none, order_some, order_begins, begun_resends, lowest_free, free_room, highest_fits}
 use Rattle.terminal.proofs.state.Terminal.begin_order.Goals as goal
 
-pub returns-in_default : goal.returns-in_default
-returns-in_default c =
-    let t : TerminalM = terminal_model c.args.self.now in
-    let e = order_long t c.args.keep c.args.body.now c.in_default.ensures in
-    record { answer = ap slot_of (sym e); terminal = ap (after_sending t) (sym e); resends = tt }
+pub returns-in_err-body-clause-answer : goal.returns-in_err-body-clause-answer
+returns-in_err-body-clause-answer c =
+    let e = order_long (terminal_model c.args.self.now) c.args.keep c.args.body.now (search rules) in rw e (search rules)
 
-pub returns-in_default-lowest : goal.returns-in_default-lowest
-returns-in_default-lowest c =
-    let t : TerminalM = terminal_model c.args.self.now in
-    let e = order_none t c.args.keep c.args.body.now (held c.in-Some.body) c.in-Some.ensures c.in_default-lowest.ensures.value in
-    record { answer = ap slot_of (sym e); terminal = ap (after_sending t) (sym e); resends = tt }
+pub returns-in_err-body-clause-terminal : goal.returns-in_err-body-clause-terminal
+returns-in_err-body-clause-terminal c =
+    let e = order_long (terminal_model c.args.self.now) c.args.keep c.args.body.now (search rules) in rw e
 
-pub overflow_cast-highest : goal.overflow_cast-highest
-overflow_cast-highest c =
+pub returns-in_err-slot-clause-answer : goal.returns-in_err-slot-clause-answer
+returns-in_err-slot-clause-answer c =
+    let e = order_none (terminal_model c.args.self.now) c.args.keep c.args.body.now c.in_ok-body.body (search rules) (search rules) in
+    rw e (search rules)
+
+pub returns-in_err-slot-clause-terminal : goal.returns-in_err-slot-clause-terminal
+returns-in_err-slot-clause-terminal c =
+    let e = order_none (terminal_model c.args.self.now) c.args.keep c.args.body.now c.in_ok-body.body (search rules) (search rules) in
+    rw e
+
+pub overflow_cast-call : goal.overflow_cast-call
+overflow_cast-call c =
     let t : TerminalM = terminal_model c.args.self.now in
-    let free = lowest_free t c.in-Some-lowest.slot c.in-Some-lowest.ensures.value in
-    let small = highest_fits t c.in-Some-lowest.slot c.max-highest.result c.in-Some-lowest.ensures.sixteen free (c.max-highest.ensures ∙ ap (max c.in-Some-lowest.slot) c.highest.ensures) in
+    let ends : length c.args.self.now.ends ≡ 16 = search rules in
+    let found : Some c.in_ok-slot.slot ≡ lowest_at is_ready t.slots 0 = search rules in
+    let small = highest_fits t c.in_ok-slot.slot c.highest_with.result (length-map c.args.self.now.ends end_model ∙ ends) (lowest_free t c.in_ok-slot.slot found) c.highest_with.ensures in
     search rules
 
 pub begin-requires : goal.begin-requires
 begin-requires c =
     let t : TerminalM = terminal_model c.args.self.now in
-    let free = lowest_free t c.in-Some-lowest.slot c.in-Some-lowest.ensures.value in
-    (omega (arith, free.within, c.in-Some-lowest.ensures.sixteen), free_room t c.in-Some-lowest.slot free)
+    let found : Some c.in_ok-slot.slot ≡ lowest_at is_ready t.slots 0 = search rules in
+    free_room t c.in_ok-slot.slot (lowest_free t c.in_ok-slot.slot found)
 
 pub returns : goal.returns
 returns c =
     let t : TerminalM = terminal_model c.args.self.now in
-    let highest = c.max-highest.ensures ∙ ap (max c.in-Some-lowest.slot) c.highest.ensures in
-    let e = order_some t c.args.keep c.args.body.now (held c.in-Some.body) c.in-Some-lowest.slot c.max-highest.result c.in-Some.ensures c.in-Some-lowest.ensures.value highest in
+    let ends : length c.args.self.now.ends ≡ 16 = search rules in
+    let sixteen = length-map c.args.self.now.ends end_model ∙ ends in
+    let e = order_some t c.args.keep c.args.body.now c.in_ok-body.body c.in_ok-slot.slot c.highest_with.result (search rules) (search rules) c.highest_with.ensures in
     let answer = ap slot_of (sym e) in
-    let terminal = c.begin.ensures.value ∙ ap (after_sending t) (sym e) in
+    let terminal = c.begin.ensures ∙ ap (after_sending t) (sym e) in
     record {
       answer = answer;
       terminal = terminal;
-      resends = begun_resends t _ _ _ _ c.begin.ensures.sixteen (order_begins t _ _ _ e) e terminal answer;
+      resends = begun_resends t _ _ _ _ sixteen (order_begins t _ _ _ e) e terminal answer;
     }

@@ -1,6 +1,8 @@
-use Rattle.std.proofs.Common.{◌-◌, ◌++◌, length, replicate, arith}
-use Rattle.common.specs.Bytes.{Bytes, bytes4}
+use Rattle.std.proofs.Common.{◌-◌, ◌≤◌, ◌++◌, length, take, replicate, ap, ◌∙◌, arith}
+use Rattle.std.proofs.lemmas.List.{take-replicate}
+use Rattle.common.specs.Bytes.{bytes4}
 use Rattle.wire.specs.Wire.{padded}
+use Rattle.wire.specs.Written.{written}
 use Rattle.wire.proofs.Puts.{two}
 use Rattle.wire.proofs.writer.Writer.body.Goals as goal
 
@@ -8,9 +10,7 @@ pub returns : goal.returns
 returns c =
     let body = c.args.body.now in
     let size = bytes4 (length body) in
-    let pad : Bytes = replicate (padded (length body) - length body) 0 in
-    let sized = two _ size body c.u32.ensures.written c.put.ensures.written in
-    record {
-      written = two _ (size ++ body) pad sized c.zeros.ensures.written;
-      len = omega (arith, c.u32.ensures.len, c.put.ensures.len, c.zeros.ensures.len);
-    }
+    let few : padded (length body) - length body ≤ 4 = omega arith in
+    let zeros = ap (λ n. take (n - length body) (replicate 4 0)) c.padded.ensures ∙ take-replicate (padded (length body) - length body) 4 0 few in
+    let sized = two _ size body c.u32.ensures c.put.ensures in
+    two _ (size ++ body) (replicate (padded (length body) - length body) 0) sized (c.put-2.ensures ∙ ap (λ pad. written c.put.new.self ++ pad) zeros)
