@@ -5,11 +5,12 @@ use channel::loss::Loss;
 use channel::pipe::Pipe;
 use channel::shelf::Shelf;
 use std::io;
+use wire::ROOM;
 
 const WORDS: [&str; 3] = ["rye", "oat", "bun"];
 
 fn tell_next<C: Channel>(rt: &HostRuntime, channel: &mut C) -> io::Result<()> {
-    let mut buffer = [0; 304];
+    let mut buffer = [0; ROOM];
     match channel.take(&mut buffer) {
         Some(len) => print!(rt; " {}", Text(&buffer[..len])),
         None => print!(rt; " -"),

@@ -32,6 +32,7 @@ impl<Q: Channel, R: Channel> Shift<'_, Ledger, Q, R> {
         let Some(body) = answered else {
             return Ok(());
         };
+        // By match: each arm prints another line.
         match read_reply(body.as_slice()) {
             Some(Ok(Answer::Moved { from, to })) => {
                 println!(self.rt; "    moved: {from} g are left, the mixer holds {to} g")

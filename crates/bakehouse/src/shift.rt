@@ -4,14 +4,14 @@ use house::{Closing, Heard, House, Taken, Told};
 use service::Service;
 use slots::Body;
 use std::io;
-use wire::Refusal;
+use wire::{ROOM, Refusal};
 
 /// A house at work, the scratch that its messages pass through, and where its day is told.
 /// Each call is told in a line: what came of it, and why.
 #[derive(Drop)]
 pub struct Shift<'a, S: Service, Q: Channel, R: Channel> {
     pub house: House<S, Q, R>,
-    pub scratch: [u8; 304],
+    pub scratch: [u8; ROOM],
     pub rt: &'a HostRuntime,
 }
 
@@ -19,7 +19,7 @@ impl<'a, S: Service, Q: Channel, R: Channel> Shift<'a, S, Q, R> {
     pub fn begin(rt: &'a HostRuntime, service: S, requests: Q, replies: R) -> Shift<'a, S, Q, R> {
         Shift {
             house: House::new(service, requests, replies, 1, 1),
-            scratch: [0; 304],
+            scratch: [0; ROOM],
             rt,
         }
     }

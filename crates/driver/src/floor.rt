@@ -6,7 +6,7 @@ use crate::tally::{Tally, count};
 use channel::Channel;
 use house::{Closing, Heard, House, Taken, Told};
 use std::mem;
-use wire::Refusal;
+use wire::{ROOM, Refusal};
 
 /// The stakes of a terminal's open calls, by slot.
 #[derive(Clone, Copy)]
@@ -35,7 +35,7 @@ impl Desk {
 pub struct Floor<S: Trade, Q: Channel, R: Channel> {
     pub house: House<S, Q, R>,
     pub tally: Tally,
-    scratch: [u8; 304],
+    scratch: [u8; ROOM],
     desks: [Desk; 8],
     dice: Dice,
 }
@@ -45,7 +45,7 @@ impl<S: Trade, Q: Channel, R: Channel> Floor<S, Q, R> {
         Floor {
             house,
             tally: Tally::new(),
-            scratch: [0; 304],
+            scratch: [0; ROOM],
             desks: [Desk::EMPTY; 8],
             dice: Dice::seeded(seed),
         }

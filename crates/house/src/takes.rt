@@ -53,6 +53,7 @@ impl Place {
             .is_some_and(|terminal| terminal.has_id(id))
     }
 
+    // That the body is short the reader tells, as at the server.
     fn accept(&mut self, reply: Reply<'_>) -> Result<Closing, Refusal>
         requires { length reply.body.now ≤ 256 }
         ensures answer { answer_model closing_model result ≡ accepts (place_model self.old) (reply_model reply.entry) }

@@ -5,7 +5,7 @@ use crate::orders::WorkOrder;
 use slots::Body;
 use wire::{SessionId, Status};
 
-/// The outcome of a finished call. What is kept of it in a slot is the same but for the body, which lies in the tray.
+/// The outcome of a finished call. Highest and target are two fields, as in replies and in the rules. What is kept of it in a slot is the same but for the body, which lies in the tray.
 #[derive(Clone, Copy)]
 pub struct Outcome {
     pub(crate) highest: u32,

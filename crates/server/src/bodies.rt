@@ -24,7 +24,7 @@ pub(crate) fn reply_of<S: Service>(service: &mut S, request: &[u8]) -> Body
 }
 
 impl Answer {
-    /// The reply, its body lent from here.
+    /// The reply, its body lent from here. No `From`: it lends, and converts nothing.
     pub fn reply(&self) -> Reply<'_>
         ensures value { reply_model result ≡ answer_model self.now }
         ensures short { length result.body.now ≤ 256 }
@@ -43,7 +43,7 @@ impl Answer {
 }
 
 impl Tray {
-    // By hand and not derived, as a slot is.
+    // No derived `Default`: the contract tells which tray it is, which a derived one would not.
     pub(crate) fn free() -> Tray
         ensures { result ≡ no_tray }
     {

@@ -25,7 +25,7 @@ fn bad_highest(request: Request<'_>) -> bool
 }
 
 impl Slot {
-    // Never used. By hand and not derived, since what it means has to be told.
+    // Never used. No derived `Default`: the contract tells what it means, which a derived one would not.
     pub(crate) fn new() -> Slot
         ensures shut { result.tray ≡ None }
         ensures value { slot_model no_tray result ≡ new_slot }

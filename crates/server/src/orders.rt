@@ -10,6 +10,7 @@ use service::Service;
 use wire::{Refusal, SessionId};
 
 /// The call that a work order names.
+// A reader's `Head` has these fields too, but it is private there, since messages are flat for their users.
 #[derive(Clone, Copy)]
 pub struct Call {
     pub(crate) id: SessionId,

@@ -38,7 +38,7 @@ fn free_tray(trays: &[Tray]) -> Option<usize>
 }
 
 // The next three take both arrays apart: a method would have the server whole while slot and tray disagree.
-// What they need of the arrays stands in their clauses for that reason, and no struct around both is any plainer.
+// What they need of the arrays stands in the clauses of each for that reason.
 
 // Shuts a slot and frees its tray.
 fn release(sessions: &mut [Option<Session>], trays: &mut [Tray], spot: &Spot)
@@ -57,7 +57,7 @@ fn release(sessions: &mut [Option<Session>], trays: &mut [Tray], spot: &Spot)
     }
 }
 
-// Opens a slot that is shut, with a free tray.
+// Opens a slot that is shut, with a free tray. Not one function with `release`: each leaves another fact of the free trays.
 fn claim(sessions: &mut [Option<Session>], trays: &mut [Tray], spot: &Spot)
     requires whole { (length sessions.old ≡ 8) × (length trays.old ≡ 64) }
     requires owned { Owned sessions.old trays.old }
@@ -157,7 +157,7 @@ impl Server {
     pub(crate) fn free_slots(&mut self, place: PlaceId)
         ensures { model self.new ≡ change_at (model self.old) place (at_front emptied 16) }
     {
-        // By number, as they are opened.
+        // By number, as they are opened. Not one function for both, since only opening needs free trays.
         for i in 0..SLOTS {
             if let Some(slot) = SlotId::new(i) {
                 self.free_slot(&Spot { place, slot });

@@ -13,7 +13,7 @@ pub type PlaceId = Index<PLACES>;
 pub type TrayId = Index<TRAYS>;
 
 /// Where a slot is: the place of its session, and its number there.
-/// It goes by reference: taken by value beside both arrays it gets no generated proof.
+/// It is lent to the functions that take it beside both arrays.
 #[derive(Clone, Copy)]
 pub struct Spot {
     pub(crate) place: PlaceId,

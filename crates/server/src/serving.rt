@@ -14,7 +14,7 @@ use slots::Body;
 use wire::{Refusal, Request, Status, read_request};
 
 impl Answer {
-    // The reply to a request that carries nothing but a status.
+    // The reply to a request that carries nothing but a status, with bytes of its own: it outlives the request.
     pub(crate) fn refusing(request: Request<'_>, status: Status) -> Answer
         ensures { answer_model result ≡ refusing (request_model request.entry) (status_number status) }
     {

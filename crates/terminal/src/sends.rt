@@ -8,6 +8,7 @@ use crate::state::{OpenCall, Terminal};
 use wire::{Refusal, Request, has_room, write};
 
 /// A message that stands at the front of the caller's scratch: the slot of its call, and its length.
+// A length and no slice: one that lent the scratch would leave its value at the exit unknown.
 // That it fits is a clause and no ghost field: `told` makes one of any sending, whose message the rules do not bound.
 #[derive(Clone, Copy)]
 pub struct Sent {

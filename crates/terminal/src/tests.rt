@@ -3,6 +3,7 @@ use wire::{Refusal, Reply, SessionId, Status};
 
 const ID: SessionId = SessionId { boot: 7, count: 1 };
 
+// Steps as data, so that a life is a table.
 #[derive(Clone, Copy)]
 enum Step {
     Order,

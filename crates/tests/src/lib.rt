@@ -1,4 +1,4 @@
-//! Tests as tables that need several layers at once. They stand apart from the layers, since a crate with tests is proved twice.
+//! Tests as tables that need several layers at once. They stand apart, above all the layers that they need.
 #![tactic(auto)]
 
 #[cfg(test)]

@@ -18,6 +18,7 @@ struct Ask {
     body: &'static [u8],
 }
 
+// Calls as data, so that a server's life is a table.
 #[derive(Clone, Copy)]
 enum Call {
     Open(u32),

@@ -16,6 +16,7 @@ pub enum Status {
 }
 
 /// A number that is no status.
+// A type of its own: it names what its number is none of, and no crate that has such a type knows another.
 #[derive(Clone, Copy, PartialEq, Eq, Debug)]
 pub struct UnknownStatus(pub u32);
 

@@ -121,6 +121,7 @@ impl Message for Reply<'_> {
 }
 
 /// Writes a message into the front of a buffer of at least 304 bytes, and tells its length.
+/// The buffer is the caller's, and what lies behind the message stays, so that a length is told and no slice.
 /// The buffer is judged first, then the fields. A refusal leaves the buffer as it was.
 pub fn write<M: Message>(message: M, out: &mut [u8]) -> Result<usize, Refusal>
     ensures answer { answer_model itself result ≡ write_answer (M.forbidden message) (M.message message) (length out.old) }
