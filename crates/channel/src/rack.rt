@@ -21,8 +21,12 @@ pub(crate) type Rack = ArrayVec<Message, PLACES>;
 pub(crate) fn put(rack: &mut Rack, message: &[u8])
     ensures { rack.new.items ≡ racked rack.old.items message.now }
 {
+    // Nothing is copied where there is no room.
+    if rack.is_full() {
+        return;
+    }
     if let Some(message) = Message::copied(message) {
-        let _ = rack.try_push(message);
+        rack.push(message);
     }
 }
 

@@ -1,4 +1,4 @@
-ghost use Rattle.std.specs.Prelude.{◌≡◌, ◌≤◌, [], length, take, nat_lt, if◌then◌else◌, Some, None};
+ghost use Rattle.std.specs.Prelude.{◌≡◌, ◌≤◌, [], length, take, nat_lt, if◌then◌else◌, nat_le, Some, None};
 
 use std::marker::Model;
 
@@ -56,6 +56,29 @@ impl<const N: usize> ByteString<N> {
         let all = &mut bytes[..];
         all[len..].fill(0);
         ByteString { bytes, len }
+    }
+
+    /// Leaves no bytes. Only those that were there are wiped: the others are 0.
+    pub fn clear(&mut self)
+        ensures { self.new ≡ [] }
+    {
+        self.bytes[..self.len].fill(0);
+        self.len = 0;
+    }
+
+    /// Puts other bytes in the place of these, and tells whether they fit. Too many leave these as they are.
+    pub fn set(&mut self, from: &[u8]) -> bool
+        ensures fits { result ≡ nat_le (length from.now) N }
+        ensures after { self.new ≡ (if nat_le (length from.now) N then from.now else self.old) }
+    {
+        let len = from.len();
+        if N < len {
+            return false;
+        }
+        self.clear();
+        self.bytes[..len].copy_from_slice(from);
+        self.len = len;
+        true
     }
 
     pub fn as_slice(&self) -> &[u8]

@@ -1,5 +1,6 @@
 -- What the server's records stand for. Which tray a slot owns is left out: only the bytes in it are told.
 use Rattle.std.specs.Prelude.{Bool, false, List, map, is_some, Some, None, Option}
+use Rattle.std.specs.Borrow.{Bor}
 use Rattle.std.specs.Option.{option_map}
 use Rattle.common.specs.Bytes.{Bytes}
 use Rattle.wire.specs.declared.messages.SessionId.{SessionId as CodeId}
@@ -15,7 +16,7 @@ use Rattle.server.specs.declared.answers.Verdict.{Verdict as CodeVerdict}
 use Rattle.server.specs.declared.answers.Verdict.TheVariants.{Refuse, Repeat, New}
 use Rattle.server.specs.declared.records.Session.{Session}
 use Rattle.server.specs.declared.state.Server.{Server}
-use Rattle.server.specs.Trays.{tray_at}
+use Rattle.server.specs.Trays.{no_tray, tray_at}
 use Rattle.server.specs.Server.{Last, never, in_progress, kept, not_kept, SlotM, SessionM, ServerM, Verdict, refuse, repeat, new}
 
 -- what is kept of a call, with the reply body that was kept
@@ -36,9 +37,14 @@ slot_model t x = record {
   last = last_model x.last t.reply;
 }
 
--- both, as the code holds them together
+-- a tray that is lent, or an empty one
+abbrev pub tray_lent : Option (Bor Tray) → Tray
+tray_lent None = no_tray
+tray_lent (Some t) = t.now
+
+-- both, as the code reads them together
 abbrev pub entry_model : Entry → SlotM
-entry_model e = slot_model e.tray e.slot
+entry_model e = slot_model (tray_lent e.tray) e.slot.now
 
 -- a slot among the trays: one that is shut has no bytes
 abbrev pub slot_in : List Tray → Slot → SlotM

@@ -5,7 +5,7 @@ ghost use Rattle.server.specs.Models.{answer_model};
 ghost use Rattle.server.specs.Trays.{no_tray, spot};
 
 use crate::answers::Answer;
-use crate::records::{Spot, Tray};
+use crate::records::{LONGEST, Spot, Tray};
 use service::Service;
 use slots::Body;
 use wire::Reply;
@@ -18,7 +18,7 @@ pub(crate) fn reply_of<S: Service>(service: &mut S, request: &[u8]) -> Body
     if request.is_empty() {
         return Body::empty();
     }
-    let mut bytes = [0; 256];
+    let mut bytes = [0; LONGEST];
     let len = service.run(request, &mut bytes);
     Body::front(bytes, len)
 }
@@ -54,13 +54,29 @@ impl Tray {
         }
     }
 
-    // A slot that opens finds nothing of another's here.
-    pub(crate) fn owned(spot: Spot) -> Tray
-        ensures { result ≡ record no_tray { owner = Some spot } }
+    // Gives the tray to a slot that opens, which finds nothing of another's here.
+    pub(crate) fn give(&mut self, spot: Spot)
+        ensures { self.new ≡ record no_tray { owner = Some spot } }
     {
-        Tray {
-            owner: Some(spot),
-            ..Tray::free()
+        self.owner = Some(spot);
+        self.request.clear();
+        self.reply.clear();
+    }
+
+    // Puts the body of a request.
+    pub(crate) fn put_request(&mut self, body: &[u8])
+        requires { length body.now ≤ 256 }
+        ensures { self.new ≡ record self.old { request = body.now } }
+    {
+        let _ = self.request.set(body);
+    }
+
+    // Keeps a reply body, if it is to be kept.
+    pub(crate) fn keep(&mut self, keeps: bool, body: &Body)
+        ensures { self.new ≡ record self.old { reply = cond keeps body.now self.old.reply } }
+    {
+        if keeps {
+            self.reply = *body;
         }
     }
 }

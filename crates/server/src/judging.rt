@@ -1,8 +1,8 @@
 ghost use Rattle.std.specs.Prelude.{◌≡◌, ℕ, ◌≤◌, ◌&&◌, cond, List, length, None, nat_lt};
 ghost use Rattle.wire.specs.Models.{request_model};
 ghost use Rattle.server.specs.Server.{new_slot, is_working, is_same, judge_last, judge_repeat, is_repeat, is_new, is_bare, is_kept, judge_new, bad_highest, judge, accepted};
-ghost use Rattle.server.specs.Trays.{no_tray, tray_at};
-ghost use Rattle.server.specs.Models.{last_model, slot_model, entry_model, verdict_model};
+ghost use Rattle.server.specs.Trays.{no_tray};
+ghost use Rattle.server.specs.Models.{last_model, slot_model, slot_in, tray_lent, entry_model, verdict_model};
 ghost use Rattle.server.specs.Places.{concluded};
 
 use crate::answers::{Outcome, Verdict};
@@ -47,27 +47,74 @@ impl Slot {
         self
     }
 
-    // The slot with its tray, or with an empty one where it is shut.
-    pub(crate) fn entry(self, trays: &[Tray]) -> Entry
+    // The slot with its tray.
+    pub(crate) fn entry<'a>(&'a self, trays: &'a [Tray]) -> Entry<'a>
         requires { length trays.now ≡ 64 }
-        ensures slot { result.slot ≡ self }
-        ensures tray { result.tray ≡ tray_at trays.now self.tray }
+        ensures { entry_model result ≡ slot_in trays.now self.now }
     {
         let tray = match self.tray {
-            Some(tray) => trays[tray.get()],
-            None => Tray::free(),
+            Some(tray) => Some(&trays[tray.get()]),
+            None => None,
         };
         Entry { slot: self, tray }
     }
+
+    // A call is in progress at the slot.
+    pub(crate) fn started(mut self, request: Request<'_>) -> Slot
+        ensures value { (t : Tray) → slot_model (record t { request = request.entry.body.now }) result ≡ accepted (slot_model t self) (request_model request.entry) }
+        ensures tray { result.tray ≡ self.tray }
+    {
+        self.number = request.number;
+        self.highest = request.highest;
+        self.keep = request.keep;
+        self.last = Last::InProgress;
+        self
+    }
+
+    // The slot's call has run. Its outcome is kept, if it is to be.
+    pub(crate) fn concluded(mut self, keeps: bool, outcome: &Outcome) -> Slot
+        ensures value { (t : Tray) → is_kept (slot_model t self) ≡ keeps → slot_model (record t { reply = cond keeps outcome.now.body t.reply }) result ≡ concluded (slot_model t self) outcome.now.highest outcome.now.target outcome.now.body }
+        ensures tray { result.tray ≡ self.tray }
+    {
+        if keeps {
+            self.last = Last::Kept {
+                highest: outcome.highest,
+                target: outcome.target,
+            };
+        } else {
+            self.last = Last::NotKept;
+        }
+        self
+    }
 }
 
-impl Entry {
+impl Entry<'_> {
+    // The body of its last request.
+    pub(crate) fn request(&self) -> &[u8]
+        ensures { result.now ≡ (entry_model self.now).body }
+    {
+        match self.tray {
+            Some(tray) => tray.request.as_slice(),
+            None => &[],
+        }
+    }
+
     fn is_same(&self, request: Request<'_>) -> bool
         ensures { result ≡ is_same (entry_model self.now) (request_model request.entry) }
     {
         self.slot.highest == request.highest
             && self.slot.keep == request.keep
-            && self.tray.request.as_slice() == request.body
+            && self.request() == request.body
+    }
+
+    // The reply body that was kept.
+    fn reply(&self) -> Body
+        ensures { result ≡ (tray_lent self.now.tray).reply }
+    {
+        match self.tray {
+            Some(tray) => tray.reply,
+            None => Body::empty(),
+        }
     }
 
     fn judge_last(&self) -> Verdict
@@ -79,7 +126,7 @@ impl Entry {
             Last::Kept { highest, target } => Verdict::Repeat(Outcome {
                 highest,
                 target,
-                body: self.tray.reply,
+                body: self.reply(),
             }),
         }
     }
@@ -131,31 +178,15 @@ impl Entry {
         Verdict::Refuse(Status::SeqMisordered)
     }
 
-    // A new call is in progress.
-    pub(crate) fn accept(&mut self, request: Request<'_>)
-        requires { length request.body.now ≤ 256 }
-        ensures value { entry_model self.new ≡ accepted (entry_model self.old) (request_model request.entry) }
-        ensures tray { self.new.slot.tray ≡ self.old.slot.tray }
-        ensures owner { self.new.tray.owner ≡ self.old.tray.owner }
-    {
-        if let Some(body) = Body::copied(request.body) {
-            self.tray.request = body;
-        }
-        self.slot.number = request.number;
-        self.slot.highest = request.highest;
-        self.slot.keep = request.keep;
-        self.slot.last = Last::InProgress;
-    }
-
     pub(crate) fn is_bare(&self) -> bool
         ensures { result ≡ is_bare (entry_model self.now) }
     {
-        self.tray.request.as_slice().is_empty()
+        self.request().is_empty()
     }
 
     // Whether the slot, number `slot`, is open and its call shuts it when it runs.
     pub(crate) fn shuts(&self, slot: usize, target: u32) -> bool
-        ensures { result ≡ ((entry_model self.now).is_open && (is_bare (entry_model self.now) && (nat_lt self.now.slot.highest slot && nat_lt target slot))) }
+        ensures { result ≡ ((entry_model self.now).is_open && (is_bare (entry_model self.now) && (nat_lt self.now.slot.now.highest slot && nat_lt target slot))) }
     {
         self.slot.tray.is_some()
             && self.is_bare()
@@ -163,20 +194,10 @@ impl Entry {
             && (target as usize) < slot
     }
 
-    // The call has run. Its outcome is kept if that was asked for, and always without a body.
-    pub(crate) fn conclude(&mut self, outcome: &Outcome)
-        ensures value { entry_model self.new ≡ concluded (entry_model self.old) outcome.now.highest outcome.now.target outcome.now.body }
-        ensures tray { self.new.slot.tray ≡ self.old.slot.tray }
-        ensures bytes { self.new.tray ≡ record self.old.tray { reply = cond (is_kept (entry_model self.old)) outcome.now.body self.old.tray.reply } }
+    // Whether the outcome of its call is to be kept: if that was asked for, and always without a body.
+    pub(crate) fn is_kept(&self) -> bool
+        ensures { result ≡ is_kept (entry_model self.now) }
     {
-        if self.is_bare() || self.slot.keep {
-            self.tray.reply = outcome.body;
-            self.slot.last = Last::Kept {
-                highest: outcome.highest,
-                target: outcome.target,
-            };
-        } else {
-            self.slot.last = Last::NotKept;
-        }
+        self.is_bare() || self.slot.keep
     }
 }

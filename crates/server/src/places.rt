@@ -3,13 +3,14 @@ ghost use Rattle.std.specs.List.{position};
 ghost use Rattle.std.specs.Option.{is_none};
 ghost use Rattle.wire.specs.Models.{id_model, request_model};
 ghost use Rattle.server.specs.Server.{SessionM, place_of, slot_at, free_trays, with_open, accepted, new};
-ghost use Rattle.server.specs.Trays.{Owned, is_free, shut_in, tray_at, tray_of};
+ghost use Rattle.server.specs.Trays.{Owned, is_free, shut_in, tray_of};
 ghost use Rattle.server.specs.Models.{model, session_model, entry_model, bears};
-ghost use Rattle.server.specs.Places.{emptied, session_at, vacant_place, change_in, change_at, at_slot, at_front, shut_at, shut_below, verdict_at};
+ghost use Rattle.server.specs.Places.{bare_in, concluded, emptied, session_at, vacant_place, change_in, change_at, at_slot, at_front, shut_at, shut_below, verdict_at};
 
+use crate::answers::Outcome;
 use crate::records::{Entry, PlaceId, Session, Spot, Tray, TrayId};
 use crate::state::Server;
-use slots::{SLOTS, SlotId};
+use slots::{SLOTS, SlotId, put};
 use wire::{Request, SessionId};
 
 fn bears(place: &Option<Session>, id: SessionId) -> bool
@@ -52,8 +53,10 @@ fn release(sessions: &mut [Option<Session>], trays: &mut [Tray], spot: &Spot)
     };
     let i = spot.slot.get();
     if let Some(tray) = session.slots[i].tray {
-        session.slots[i].tray = None;
-        trays[tray.get()] = Tray::free();
+        let shut = session.slots[i].opened(None);
+        put(&mut session.slots, i, shut);
+        // Its bytes stay where they are: no slot reads them, and the next that owns the tray empties it.
+        trays[tray.get()].owner = None;
     }
 }
 
@@ -74,28 +77,50 @@ fn claim(sessions: &mut [Option<Session>], trays: &mut [Tray], spot: &Spot)
         return;
     }
     if let Some(tray) = free_tray(trays) {
-        session.slots[i] = session.slots[i].opened(TrayId::new(tray));
-        trays[tray] = Tray::owned(*spot);
+        let open = session.slots[i].opened(TrayId::new(tray));
+        put(&mut session.slots, i, open);
+        trays[tray].give(*spot);
     }
 }
 
-// Puts a slot, with the tray that it has there.
-fn write(sessions: &mut [Option<Session>], trays: &mut [Tray], spot: &Spot, entry: Entry)
+// A new call is in progress at an open slot.
+fn accept(sessions: &mut [Option<Session>], trays: &mut [Tray], spot: &Spot, request: Request<'_>)
     requires whole { (length sessions.old ≡ 8) × (length trays.old ≡ 64) }
     requires owned { Owned sessions.old trays.old }
-    requires slot { tray_of sessions.old spot.now.place spot.now.slot ≡ entry.slot.tray }
-    requires owner { entry.tray.owner ≡ (tray_at trays.old entry.slot.tray).owner }
-    requires bare { entry.slot.tray ≡ None → (entry.tray.request ≡ []) × (entry.tray.reply ≡ []) }
+    requires open { is_some (tray_of sessions.old spot.now.place spot.now.slot) ≡ true }
+    requires short { length request.body.now ≤ 256 }
     ensures owned { Owned sessions.new trays.new }
-    ensures state { map (session_model trays.new) sessions.new ≡ change_in (map (session_model trays.old) sessions.old) spot.now.place (at_slot (λ _. entry_model entry) spot.now.slot) }
+    ensures state { map (session_model trays.new) sessions.new ≡ change_in (map (session_model trays.old) sessions.old) spot.now.place (at_slot (λ x. accepted x (request_model request.entry)) spot.now.slot) }
 {
     let Some(session) = &mut sessions[spot.place.get()] else {
         return;
     };
     let i = spot.slot.get();
-    session.slots[i] = entry.slot;
-    if let Some(tray) = entry.slot.tray {
-        trays[tray.get()] = entry.tray;
+    let slot = session.slots[i];
+    let Some(tray) = slot.tray else {
+        return;
+    };
+    trays[tray.get()].put_request(request.body);
+    put(&mut session.slots, i, slot.started(request));
+}
+
+// The call at a slot has run. Not one function with `accept`: each changes another body.
+fn conclude(sessions: &mut [Option<Session>], trays: &mut [Tray], spot: &Spot, outcome: &Outcome)
+    requires whole { (length sessions.old ≡ 8) × (length trays.old ≡ 64) }
+    requires owned { Owned sessions.old trays.old }
+    requires bare { tray_of sessions.old spot.now.place spot.now.slot ≡ None → outcome.now.body ≡ [] }
+    ensures owned { Owned sessions.new trays.new }
+    ensures state { map (session_model trays.new) sessions.new ≡ change_in (map (session_model trays.old) sessions.old) spot.now.place (at_slot (λ x. concluded x outcome.now.highest outcome.now.target outcome.now.body) spot.now.slot) }
+{
+    let Some(session) = &mut sessions[spot.place.get()] else {
+        return;
+    };
+    let i = spot.slot.get();
+    let slot = session.slots[i];
+    let keeps = slot.entry(trays).is_kept();
+    put(&mut session.slots, i, slot.concluded(keeps, outcome));
+    if let Some(tray) = slot.tray {
+        trays[tray.get()].keep(keeps, &outcome.body);
     }
 }
 
@@ -166,23 +191,11 @@ impl Server {
     }
 
     // The slot at a spot, with its tray.
-    pub(crate) fn entry(&self, spot: &Spot) -> Entry
+    pub(crate) fn entry(&self, spot: &Spot) -> Entry<'_>
         requires { is_some (session_at (model self.now) spot.now.place) ≡ true }
-        ensures value { (s : SessionM) → session_at (model self.now) spot.now.place ≡ Some s → slot_at s spot.now.slot ≡ entry_model result }
-        ensures slot { tray_of self.now.sessions spot.now.place spot.now.slot ≡ result.slot.tray }
-        ensures tray { result.tray ≡ tray_at self.now.trays result.slot.tray }
+        ensures { (s : SessionM) → session_at (model self.now) spot.now.place ≡ Some s → slot_at s spot.now.slot ≡ entry_model result }
     {
         self.session(spot.place).slots[spot.slot.get()].entry(&self.trays)
-    }
-
-    // Puts a slot, with the tray that it has there.
-    pub(crate) fn put(&mut self, spot: &Spot, entry: Entry)
-        requires slot { tray_of self.old.sessions spot.now.place spot.now.slot ≡ entry.slot.tray }
-        requires owner { entry.tray.owner ≡ (tray_at self.old.trays entry.slot.tray).owner }
-        requires bare { entry.slot.tray ≡ None → (entry.tray.request ≡ []) × (entry.tray.reply ≡ []) }
-        ensures { model self.new ≡ change_at (model self.old) spot.now.place (at_slot (λ _. entry_model entry) spot.now.slot) }
-    {
-        write(&mut self.sessions, &mut self.trays, spot, entry);
     }
 
     // A new call is in progress.
@@ -193,9 +206,16 @@ impl Server {
     {
         if let Some(slot) = SlotId::new(request.slot as usize) {
             let spot = Spot { place, slot };
-            let mut entry = self.entry(&spot);
-            entry.accept(request);
-            self.put(&spot, entry);
+            accept(&mut self.sessions, &mut self.trays, &spot, request);
         }
+    }
+
+    // Keeps the outcome of a slot's call, if that was asked for or the call is bare.
+    pub(crate) fn keep(&mut self, spot: &Spot, outcome: &Outcome)
+        requires stands { is_some (session_at (model self.old) spot.now.place) ≡ true }
+        requires bare { bare_in (model self.old) spot.now.place spot.now.slot ≡ true → outcome.now.body ≡ [] }
+        ensures { model self.new ≡ change_at (model self.old) spot.now.place (at_slot (λ x. concluded x outcome.now.highest outcome.now.target outcome.now.body) spot.now.slot) }
+    {
+        conclude(&mut self.sessions, &mut self.trays, spot, outcome);
     }
 }

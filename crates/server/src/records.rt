@@ -6,6 +6,9 @@ use common::Index;
 use slots::{Body, SLOTS, SlotId};
 use wire::SessionId;
 
+/// The longest body of a request or a reply.
+pub const LONGEST: usize = 256;
+
 /// The number of a place at which a session can stand.
 pub type PlaceId = Index<PLACES>;
 
@@ -50,11 +53,11 @@ pub struct Slot {
     ghost low: { (kept_highest last ≤ 15) × (kept_target last ≤ 15) },
 }
 
-/// An entry of the reply cache: a slot with the tray that it owns, or with an empty one where it is shut.
+/// An entry of the reply cache, read where it lies: a slot with the tray that it owns, or with none where it is shut.
 #[derive(Clone, Copy)]
-pub struct Entry {
-    pub(crate) slot: Slot,
-    pub(crate) tray: Tray,
+pub struct Entry<'a> {
+    pub(crate) slot: &'a Slot,
+    pub(crate) tray: Option<&'a Tray>,
 }
 
 /// A session that stands. Its target is the number that replies carry; open and retarget refuse one above 15.

@@ -41,17 +41,6 @@ impl Server {
         }
     }
 
-    // Keeps the outcome of a slot's call, if that was asked for or the call is bare.
-    fn keep(&mut self, spot: &Spot, outcome: &Outcome)
-        requires stands { is_some (session_at (model self.old) spot.now.place) ≡ true }
-        requires bare { bare_in (model self.old) spot.now.place spot.now.slot ≡ true → outcome.now.body ≡ [] }
-        ensures { model self.new ≡ change_at (model self.old) spot.now.place (at_slot (λ x. concluded x outcome.now.highest outcome.now.target outcome.now.body) spot.now.slot) }
-    {
-        let mut entry = self.entry(spot);
-        entry.conclude(outcome);
-        self.put(spot, entry);
-    }
-
     // Runs a slot's call, on the service unless it is bare, and keeps its outcome.
     fn end<S: Service>(&mut self, spot: &Spot, service: &mut S) -> Outcome
         requires { is_some (session_at (model self.old) spot.now.place) ≡ true }
@@ -62,8 +51,7 @@ impl Server {
         let session = self.session(spot.place);
         let highest = session.highest_open();
         let target = session.target;
-        let entry = self.entry(spot);
-        let body = reply_of(service, entry.tray.request.as_slice());
+        let body = reply_of(service, self.entry(spot).request());
         let outcome = Outcome {
             highest,
             target,
@@ -97,7 +85,7 @@ impl Server {
         let call = Call {
             id,
             slot: spot.slot.get() as u32,
-            number: self.entry(spot).slot.number,
+            number: self.session(spot.place).slots[spot.slot.get()].number,
         };
         let outcome = self.run_at(spot, service);
         Answer::done(call, outcome)

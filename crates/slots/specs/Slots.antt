@@ -1,7 +1,5 @@
 -- The slot table: what is asked of a list of records, at both ends alike.
-use denote.Ref.{MutBor}
-use Rattle.std.specs.Fn.{Shared}
-use Rattle.std.specs.Prelude.{◌≡◌, ℕ, ◌+◌, Bool, cond, List, [], ◌∷◌, ◌++◌, map, take, drop, nat_lt}
+use Rattle.std.specs.Prelude.{ℕ, ◌+◌, Bool, cond, List, [], ◌∷◌, ◌++◌, map, take, drop, nat_lt}
 
 -- the highest index, counted from i, at which a test holds, or else `best`
 abbrev pub highest_at : {X : Type 0} → (X → Bool) → List X → ℕ → ℕ → ℕ
@@ -11,10 +9,6 @@ highest_at test (x ∷ xs) i best = highest_at test xs (i + 1) (cond (test x) i 
 -- the first n changed
 abbrev pub front_changed : {X : Type 0} → (X → X) → ℕ → List X → List X
 front_changed change n xs = map change (take n xs) ++ drop n xs
-
--- a call of f leaves what `changed` gives, whatever record it is called at
-abbrev pub Makes : {F R : Type 0} → Shared F (MutBor R × Unit {0}) (Unit {0} × (MutBor R × Unit {0})) → F → (R → R) → Type 0
-Makes {F} {R} g f changed = (before after : MutBor R) → g.post f (before, tt) (tt, (after, tt)) → after.now ≡ changed before.now
 
 -- the number of the call behind the one with that number
 abbrev pub next_number : ℕ → ℕ

@@ -4,7 +4,7 @@
 ghost use Rattle.std.specs.Prelude.{◌≡◌, Bool, if◌then◌else◌, Some, None, count_by, slice_set, unwrap_or};
 ghost use Rattle.std.specs.List.{slice_get};
 ghost use Rattle.common.specs.Search.{lowest_at};
-ghost use Rattle.slots.specs.Slots.{highest_at, front_changed, Makes, next_number, has_next};
+ghost use Rattle.slots.specs.Slots.{highest_at, front_changed, next_number, has_next};
 
 pub mod laws;
 
@@ -32,6 +32,15 @@ pub trait Record {
     /// Can take a new call.
     fn is_ready(&self) -> bool
         ensures { result ≡ ready self.now };
+}
+
+/// A change to be made at several slots. A trait and no closure: a public function may have no `requires`, and to call
+/// a closure that a caller hands in needs one.
+pub trait Change<R> {
+    ghost changed: { Self → R → R };
+
+    fn apply(&self, kept: &mut R)
+        ensures { kept.new ≡ changed self.now kept.old };
 }
 
 /// The number of the call behind the one with that number, at both ends; none behind the last.
@@ -69,48 +78,48 @@ pub fn count_active<R: Record>(records: &[R]) -> usize
     records.iter().filter(|r| r.is_active()).count()
 }
 
-/// Makes a change at the first `count` records.
 #[tactic(auto, using(crate::proofs::Slots::front_all))]
-pub fn change_front<R, F: Fn(&mut R)>(records: &mut [R], count: usize, change: F)
-    ghost changed: { R → R }
-    requires callable { F.IsAlwaysCallable change }
-    requires makes { Makes F.Fn change changed }
-    ensures { records.new ≡ front_changed changed count records.old }
+fn change_each<R, C: Change<R>>(records: &mut [R], count: usize, change: &C)
+    ensures { records.new ≡ front_changed (C.Change.changed change.now) count records.old }
 {
     let end = count.min(records.len());
     for record in &mut records[..end] {
-        change(record);
+        change.apply(record);
     }
 }
 
+// The next two lend a table the records that they are lent, so that every slot that is written is written by the table.
+// A caller whose records hold a value with a model (a byte string, a bounded number) goes through them: from a table
+// of its own making such records would come back unknown to its proof.
+
+/// Puts a record in the place of a slot's, and leaves all others; where there is no such slot, all.
+pub fn put<R: Drop>(records: &mut [R], slot: usize, value: R)
+    ensures { records.new ≡ slice_set records.old slot value }
+{
+    let mut table = SlotTable::new(records);
+    table.put(slot, value);
+}
+
+/// Makes a change at the first `count` records.
+pub fn change_front<R, C: Change<R>>(records: &mut [R], count: usize, change: &C)
+    ensures { records.new ≡ front_changed (C.Change.changed change.now) count records.old }
+{
+    let mut table = SlotTable::new(records);
+    table.change(count, change);
+}
+
 /// Slots over the records that a caller lends, read and changed in place.
-// Its methods stand beside the functions on slices, for a caller that lends its records. The ends call the functions,
-// since their records hold values with a model.
 #[derive(Drop)]
 pub struct SlotTable<'a, R> {
     records: &'a mut [R],
 }
 
-impl<'a, R: Record> SlotTable<'a, R> {
+impl<'a, R> SlotTable<'a, R> {
     pub fn new(records: &'a mut [R]) -> SlotTable<'a, R>
         ensures now { result.records.now ≡ records.old }
         ensures name { result.records.ghost_name ≡ records.entry.ghost_name }
     {
         SlotTable { records }
-    }
-
-    /// The highest slot that is active, or 0.
-    pub fn highest(&self) -> usize
-        ensures { result ≡ highest_at R.Record.active self.now.records.now 0 0 }
-    {
-        highest_active(self.records)
-    }
-
-    /// The lowest slot that is ready.
-    pub fn lowest(&self) -> Option<usize>
-        ensures { result ≡ lowest_at R.Record.ready self.now.records.now 0 }
-    {
-        lowest_ready(self.records)
     }
 
     /// The record of a slot, if there is such a slot.
@@ -136,13 +145,26 @@ impl<'a, R: Record> SlotTable<'a, R> {
     }
 
     /// Makes a change at the first `count` slots.
-    pub fn change<F: Fn(&mut R)>(&mut self, count: usize, change: F)
-        ghost changed: { R → R }
-        requires callable { F.IsAlwaysCallable change }
-        requires makes { Makes F.Fn change changed }
-        ensures after { self.new.records.now ≡ front_changed changed count self.old.records.now }
+    pub fn change<C: Change<R>>(&mut self, count: usize, change: &C)
+        ensures after { self.new.records.now ≡ front_changed (C.Change.changed change.now) count self.old.records.now }
         ensures name { self.new.records.ghost_name ≡ self.old.records.ghost_name }
     {
-        change_front(self.records, count, change);
+        change_each(self.records, count, change);
+    }
+}
+
+impl<R: Record> SlotTable<'_, R> {
+    /// The highest slot that is active, or 0.
+    pub fn highest(&self) -> usize
+        ensures { result ≡ highest_at R.Record.active self.now.records.now 0 0 }
+    {
+        highest_active(self.records)
+    }
+
+    /// The lowest slot that is ready.
+    pub fn lowest(&self) -> Option<usize>
+        ensures { result ≡ lowest_at R.Record.ready self.now.records.now 0 }
+    {
+        lowest_ready(self.records)
     }
 }

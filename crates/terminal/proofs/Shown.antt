@@ -6,8 +6,13 @@ use Rattle.slots.specs.Slots.{front_changed}
 use Rattle.slots.proofs.Slots.{front_shown, front_map}
 use Rattle.terminal.specs.declared.state.OpenCall.{OpenCall as CodeCall}
 use Rattle.terminal.specs.declared.state.End.{End}
-use Rattle.terminal.specs.Terminal.{OpenCall, EndM, with_usable, stale, stale_call}
+use Rattle.wire.specs.Wire.{SessionId}
+use Rattle.terminal.specs.Terminal.{TerminalM, OpenCall, EndM, with_usable, stale, stale_call}
 use Rattle.terminal.specs.Models.{end_model, call_model, opened, staled, staled_call}
+
+-- a terminal by its three fields
+abbrev pub terminal_of : SessionId → ℕ → List EndM → TerminalM
+terminal_of id heard xs = record { id = id; heard = heard; slots = xs }
 
 call_staled : (o : Option CodeCall) → option_map call_model (option_map staled_call o) ≡ option_map stale_call (option_map call_model o)
 call_staled None = refl

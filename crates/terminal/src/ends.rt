@@ -1,9 +1,9 @@
 ghost use Rattle.std.specs.Prelude.{◌≡◌, ◌<◌};
 ghost use Rattle.terminal.specs.Terminal.{begun, at_rest, is_busy, is_ready};
-ghost use Rattle.terminal.specs.Models.{call_model, end_model, staled};
+ghost use Rattle.terminal.specs.Models.{call_model, end_model, opened, staled};
 
 use crate::state::{End, OpenCall};
-use slots::{Record, next_number};
+use slots::{Change, Record, next_number};
 
 impl End {
     /// The slot with a call begun: its number rises by one.
@@ -23,15 +23,6 @@ impl End {
     {
         End { call: None, ..self }
     }
-
-    /// The open call, if any, ceases to be fresh.
-    pub(crate) fn stale(&mut self)
-        ensures { self.new ≡ staled self.old }
-    {
-        if let Some(call) = &mut self.call {
-            call.fresh = false;
-        }
-    }
 }
 
 impl Record for End {
@@ -45,5 +36,31 @@ impl Record for End {
 
     fn is_ready(&self) -> bool {
         self.usable && self.call.is_none() && next_number(self.number).is_some()
+    }
+}
+
+/// A slot becomes usable.
+#[derive(Drop)]
+pub(crate) struct Opening;
+
+impl Change<End> for Opening {
+    ghost changed = { λ _ e. opened e };
+
+    fn apply(&self, kept: &mut End) {
+        kept.usable = true;
+    }
+}
+
+/// A slot's open call, if any, ceases to be fresh.
+#[derive(Drop)]
+pub(crate) struct Staling;
+
+impl Change<End> for Staling {
+    ghost changed = { λ _ e. staled e };
+
+    fn apply(&self, kept: &mut End) {
+        if let Some(call) = &mut kept.call {
+            call.fresh = false;
+        }
     }
 }

@@ -49,7 +49,8 @@ impl Terminal {
 
     /// The request of the call with that number at a slot.
     fn request<'a>(&self, slot: u32, number: u32, call: &'a OpenCall) -> Request<'a>
-        ensures { request_model result ≡ call_request (terminal_model self.now) slot number (call_model call.now) }
+        ensures value { request_model result ≡ call_request (terminal_model self.now) slot number (call_model call.now) }
+        ensures short { length result.body.now ≤ 256 }
     {
         Request {
             id: self.id,
@@ -69,9 +70,9 @@ impl Terminal {
         ensures fits { IfOk result (λ s. s.len ≤ 304) }
     {
         has_room(scratch)?;
-        let end = self.end_at(slot);
-        let call = end.call.ok_or(Refusal::NoOpenCall)?;
-        let len = write(self.request(slot as u32, end.number, &call), scratch)?;
+        let end = self.seen(slot).ok_or(Refusal::NoOpenCall)?;
+        let call = end.call.as_ref().ok_or(Refusal::NoOpenCall)?;
+        let len = write(self.request(slot as u32, end.number, call), scratch)?;
         Ok(Sent { slot, len })
     }
 }

@@ -1,13 +1,14 @@
-ghost use Rattle.std.specs.Prelude.{◌≡◌, ◌<◌, ◌≤◌, count_by, OnSome};
+ghost use Rattle.std.specs.Prelude.{◌≡◌, ◌<◌, ◌≤◌, count_by, OnSome, IfSome};
 ghost use Rattle.common.specs.Search.{lowest_at};
 ghost use Rattle.slots.specs.Slots.{highest_at};
 ghost use Rattle.wire.specs.Wire.{same_id};
 ghost use Rattle.wire.specs.Models.{id_model};
 ghost use Rattle.terminal.specs.Terminal.{new_terminal, end_at, with_end, is_busy, is_ready, heard_target};
-ghost use Rattle.terminal.specs.Models.{terminal_model, end_model, all_stale};
+ghost use Rattle.terminal.specs.Models.{terminal_model, end_model, end_lent, all_stale};
 
+use crate::ends::{Opening, Staling};
 use crate::state::{End, Terminal};
-use slots::{SLOTS, change_front, count_active, highest_active, lowest_ready};
+use slots::{SLOTS, change_front, count_active, highest_active, lowest_ready, put};
 use wire::SessionId;
 
 impl Terminal {
@@ -76,30 +77,34 @@ impl Terminal {
         self.ends.get(slot).copied().unwrap_or_default()
     }
 
-    /// Puts an end in a slot's place, if there is such a slot. Not by `get_mut`: of an array behind it a proof knows
-    /// the length alone.
+    /// The end of a slot, lent: an end is large, and to send a call again none is copied.
+    pub(crate) fn seen(&self, slot: usize) -> Option<&End>
+        ensures value { end_lent result ≡ end_at (terminal_model self.now) slot }
+        ensures within { IfSome result (λ _. slot < 16) }
+    {
+        self.ends.get(slot)
+    }
+
+    /// Puts an end in a slot's place, if there is such a slot.
     #[tactic(auto, using(crate::proofs::Shown::put_shown))]
     pub(crate) fn put_end(&mut self, slot: usize, end: End)
         ensures { terminal_model self.new ≡ with_end (terminal_model self.old) slot (end_model end) }
     {
-        if slot < SLOTS {
-            self.ends[slot] = end;
-        }
+        put(&mut self.ends, slot, end);
     }
 
     /// Believes a target: slots 0 to it become usable.
-    #[tactic(auto, using(crate::proofs::Shown::opened_shown))]
     pub(crate) fn hear(&mut self, target: u32)
         ensures { terminal_model self.new ≡ heard_target (terminal_model self.old) target }
     {
         self.heard = target;
-        change_front(&mut self.ends, target as usize + 1, |end| end.usable = true);
+        change_front(&mut self.ends, target as usize + 1, &Opening);
     }
 
     #[tactic(auto, using(crate::proofs::Shown::staled_shown))]
     pub(crate) fn stale_all(&mut self)
         ensures { terminal_model self.new ≡ all_stale (terminal_model self.old) }
     {
-        change_front(&mut self.ends, SLOTS, |end| end.stale());
+        change_front(&mut self.ends, SLOTS, &Staling);
     }
 }

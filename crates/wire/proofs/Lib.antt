@@ -4,5 +4,6 @@ pub mod Exact
 pub mod Fields
 pub mod Grouped
 pub mod Inverse
+pub mod Lengths
 pub mod Puts
 pub mod Zeros

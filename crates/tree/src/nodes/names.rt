@@ -42,11 +42,12 @@ impl Name {
     pub fn read(bytes: &[u8]) -> Option<Name>
         ensures { result ≡ name_read bytes.now }
     {
+        // First the copy, which refuses a long one by its length alone: no byte of such a name is read.
+        let copy = ByteString::copied(bytes)?;
         if bytes.is_empty() || !are_graphic(bytes) {
             return None;
         }
-        let bytes = ByteString::copied(bytes)?;
-        Some(Name { bytes })
+        Some(Name { bytes: copy })
     }
 
     pub fn as_bytes(&self) -> &[u8]

@@ -16,7 +16,9 @@ pub struct Node {
 pub(super) fn lies_in(place: &Option<Node>, folder: NodeId) -> bool
     ensures { result ≡ lies_in folder (place_model place.now) }
 {
-    place.is_some_and(|node| node.parent == Some(folder))
+    place
+        .as_ref()
+        .is_some_and(|node| node.parent == Some(folder))
 }
 
 // There is a node, and it lies in that folder and has that name.

@@ -4,7 +4,7 @@ use Rattle.std.proofs.lemmas.Bool.{cond-false, le-ltb}
 use Rattle.wire.specs.Models.{request_model}
 use Rattle.server.specs.Server.{judge}
 use Rattle.server.specs.Trays.{no_slot}
-use Rattle.server.specs.Models.{slot_model, slot_in}
+use Rattle.server.specs.Models.{slot_in}
 use Rattle.server.proofs.Trays.{slot_here}
 use Rattle.server.proofs.Found.{passed}
 use Rattle.server.proofs.records.Session.judge.Goals as goal
@@ -19,7 +19,7 @@ returns c =
     let h : c.get.result < length s.slots = omega (arith, s.whole, c.get.ensures.below) in
     c.judge.ensures
     ∙ ap (λ y. judge y q)
-    ((λ u. slot_model (c.entry-entry.ensures.tray u) (c.entry-entry.ensures.slot u))
+    (c.entry-entry.ensures
     ∙ ap (slot_in ts) (get_or_default s.slots c.get.result _ no_slot h)
     ∙ ap (λ n. slot_in ts (get_or s.slots n no_slot)) (c.get.ensures.value ∙ n.1)
     ∙ sym (slot_here ts s q.slot))

@@ -18,7 +18,7 @@ returns g c =
     let s = c.session-session.result.now in
     let hs = c.session-session.ensures in
     let a = c.reply_of-body.ensures in
-    let asked : (n : SessionM) → session_at m p ≡ Some n → c.as_slice.result.now ≡ (slot_at n i).body = λ n e. c.as_slice.ensures.value ∙ ap (λ (y : SlotM). y.body) (sym (c.entry-entry.ensures.value n e)) in
+    let asked : (n : SessionM) → session_at m p ≡ Some n → c.request.result.now ≡ (slot_at n i).body = λ n e. c.request.ensures ∙ ap (λ (y : SlotM). y.body) (sym (c.entry.ensures n e)) in
     let top : (n : SessionM) → session_at m p ≡ Some n → c.highest_open-highest.result ≡ highest_at (λ (x : SlotM). x.is_open) n.slots 0 0 = λ n e. c.highest_open-highest.ensures.value ∙ highest_told v p s hs n e in
     let aim : (n : SessionM) → session_at m p ≡ Some n → s.target ≡ n.target = target_told v p s hs in
     record {

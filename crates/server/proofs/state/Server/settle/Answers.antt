@@ -11,7 +11,7 @@ use Rattle.server.proofs.state.Server.settle.Goals.{After-shuts}
 tested : (c : After-shuts) (m : SessionM) → session_at (model c.args.self.now) c.args.spot.now.place ≡ Some m → c.shuts.result ≡ ((slot_at m c.args.spot.now.slot).is_open && shuts m c.args.spot.now.slot (slot_at m c.args.spot.now.slot))
 tested c m e =
     let i = c.args.spot.now.slot in
-    let y = c.entry.ensures.value m e in
+    let y = c.entry.ensures m e in
     let t = target_told c.args.self.now c.args.spot.now.place c.session.result.now c.session.ensures m e in
     let n = c.get.ensures.value in
     c.shuts.ensures ∙ (λ u. (sym y u).is_open && (is_bare (sym y u) && (ltb (sym y u).highest (n u) && ltb (t u) (n u))))

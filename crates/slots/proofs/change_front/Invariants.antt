@@ -1,6 +1,0 @@
-use Rattle.std.proofs.Common.{◌≡◌}
-use Rattle.slots.specs.Slots.{front_changed}
-use Rattle.slots.proofs.change_front.Given as goal
-
-abbrev pub invariant-loop-record : goal.invariant-loop-record
-invariant-loop-record g l = l.record-items ≡ front_changed g.changed l.record-index l.initial.record-items
